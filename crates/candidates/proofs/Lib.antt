@@ -1,0 +1,5 @@
+pub mod Bits
+pub mod Marks
+pub mod Order
+pub mod Sets
+pub mod Walk

@@ -1,0 +1,4 @@
+pub mod Sets
+pub mod Order
+pub mod Members
+pub mod Walk

@@ -1,0 +1,4 @@
+// Sheets.
+pub fn one() -> u8 {
+    1
+}
