@@ -19,9 +19,9 @@ use Rattle.std.proofs.shelf.Tests.{cases-lt, cases-eq, lt-ltb, le-ltb, both-way
 use Rattle.std.proofs.shelf.Ways.{tells}
 use Rattle.candidates.specs.declared.set.CandidateSet.{CandidateSet}
 use Rattle.candidates.specs.Members.{bit, has, members}
-use Rattle.candidates.specs.Sets.{isIn, From, Ascending, counting, inserted, least}
+use Rattle.candidates.specs.Sets.{isIn, From, Ascending, counting, inserted, removed, least}
 use Rattle.candidates.proofs.Bits.{bit-none, bit-and, bit-or, bit-power, bit-complement, same-words, bit-below-trailing, trailing-below, bit-at-trailing, length-kept-from, ones-counts}
-use Rattle.candidates.proofs.Sets.{isIn-kept-by, isIn-counting, isIn-inserted, from-kept-by, from-counting, from-inserted, same-sets, least-is, kept-by-same, counting-append}
+use Rattle.candidates.proofs.Sets.{isIn-kept-by, isIn-counting, isIn-inserted, from-kept-by, from-counting, from-inserted, same-sets, least-is, kept-by-same, counting-append, cons-from-removed, length-kept-counting}
 
 -- ---- marks
 
@@ -103,6 +103,14 @@ members-from s = from-kept-by (has s) 0 (counting 0 256) (from-counting 0 256)
 
 pub members-below : (s : CandidateSet) (k : ℕ) → isIn k (members s) ≡ true → k < 256
 members-below s k here = ⊎-elim (λ h. h) (λ h. absurd (both-ways (has s k) (has-outside s k h) (sym (isIn-members s k) ∙ here))) (cases-lt k 256)
+
+pub length-members : (s : CandidateSet) → length (members s) ≤ 256
+unfolding members
+length-members s = length-kept-counting (has s) 256
+
+-- the lowest member, and the set without it
+pub members-lowest : (s r : CandidateSet) (v : ℕ) → Some v ≡ least (members s) → members r ≡ removed v (members s) → members s ≡ v ∷ members r
+members-lowest s r v lowest others = cons-from-removed v (members s) (members-from s) lowest ∙ ap (λ l. v ∷ l) (sym others)
 
 -- the members are any ascending list that has what the set has
 pub members-by : (s : CandidateSet) (xs : List ℕ) → Ascending xs → ((k : ℕ) → has s k ≡ isIn k xs) → members s ≡ xs

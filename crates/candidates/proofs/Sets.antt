@@ -7,11 +7,13 @@ use Prim.Native.Nat.{ℕ, zero, suc, _+_, _≤_, _<_}
 use native.Mathlib.Omega.{arith}
 use lib.Dec.{eqb, ltb, leb}
 use lib.ListN.{length}
-use Rattle.std.specs.declared.option.Option.the-variants.{Some}
+use Rattle.std.specs.declared.option.Option.the-variants.{Some, None}
+use Rattle.std.specs.Options.{isSome}
 use Rattle.std.specs.shelf.Lists.{kept-by}
 use Rattle.std.proofs.shelf.Tests.{false≢true, cond-both, cond-true, cond-false, eqb-true, ltb-true, or-right, cases-lt, cases-eq}
 use Rattle.std.proofs.shelf.Ways.{tells}
-use Rattle.candidates.specs.Sets.{isIn, Within, From, Ascending, counting, inserted, removed, least}
+use Rattle.candidates.specs.Sets.{isIn, Within, From, Ascending, counting, inserted, removed, least, Sub}
+use Rattle.candidates.specs.Sets.Sub.{none, skip, keep}
 
 pub in-first : (x : ℕ) (xs : List ℕ) → isIn x (x ∷ xs) ≡ true
 in-first x xs = grind (arith, tells)
@@ -135,12 +137,6 @@ removed-first v xs h =
     cond-false (not (eqb v v)) (v ∷ removed v xs) (removed v xs) (grind (arith, tells))
     ∙ kept-by-all (λ x. not (eqb x v)) xs (λ k e. let above = in-from (suc v) k xs h e in grind (arith, tells))
 
--- a part of the second, in the same order
-pub data Sub : List ℕ → List ℕ → Type 0 where
-  none : Sub [] []
-  skip : {y : ℕ} {xs ys : List ℕ} → Sub xs ys → Sub xs (y ∷ ys)
-  keep : {x : ℕ} {xs ys : List ℕ} → Sub xs ys → Sub (x ∷ xs) (x ∷ ys)
-
 pub sub-none : (ys : List ℕ) → Sub [] ys
 sub-none [] = none
 sub-none (y ∷ ys) = skip (sub-none ys)
@@ -214,3 +210,17 @@ cons-from-least v xs ys up also here lowest others =
     same-sets 0 0 xs (v ∷ ys) up
     (omega arith, from-above (suc v) ys also (λ k e. let o = others k in let low = lowest k in grind (arith, tells)))
     (λ k. let o = others k in let same : eqb k v ≡ true → isIn k xs ≡ true = λ e. ap (λ j. isIn j xs) (eqb-true k v e) ∙ here in grind (arith, tells))
+
+pub nothing-from-least : (xs : List ℕ) → None ≡ least xs → xs ≡ []
+nothing-from-least [] is = refl
+nothing-from-least (x ∷ xs) is = absurd (false≢true (ap isSome is))
+
+pub cons-from-removed : (v : ℕ) (xs : List ℕ) → Ascending xs → Some v ≡ least xs → xs ≡ v ∷ removed v xs
+cons-from-removed v [] up is = absurd (false≢true (ap isSome (sym is)))
+cons-from-removed v (x ∷ xs) up is =
+    let same : x ≡ v = cc in
+    subst (λ z. x ∷ xs ≡ z ∷ removed z (x ∷ xs)) same (ap (λ l. x ∷ l) (sym (removed-first x xs (up .1))))
+
+-- a part of n numbers in a row has at most n members
+pub length-kept-counting : (p : ℕ → Bool) (n : ℕ) → length (kept-by p (counting 0 n)) ≤ n
+length-kept-counting p n = omega (arith, length-sub (sub-kept-by p (counting 0 n)), length-counting 0 n)

@@ -51,3 +51,9 @@ without xs ys = kept-by (λ x. not (isIn x ys)) xs
 abbrev pub least : List ℕ → Option ℕ
 least [] = None
 least (x ∷ xs) = Some x
+
+-- a part of the second, in the same order
+pub data Sub : List ℕ → List ℕ → Type 0 where
+  none : Sub [] []
+  skip : {y : ℕ} {xs ys : List ℕ} → Sub xs ys → Sub xs (y ∷ ys)
+  keep : {x : ℕ} {xs ys : List ℕ} → Sub xs ys → Sub (x ∷ xs) (x ∷ ys)

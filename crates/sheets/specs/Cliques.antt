@@ -21,3 +21,8 @@ fitsAll m v (u ∷ K) = m .fit v u && fitsAll m v K
 abbrev pub isClique : Meaning → List ℕ → Bool
 isClique m [] = true
 isClique m (v ∷ K) = ltb v (m .size) && (fitsAll m v K && isClique m K)
+
+-- The empty set and each candidate alone are cliques.
+pub record SmallCliques (m : Meaning) : Type 0 where
+  pub empty : Clique m []
+  pub single : (v : ℕ) → v < m .size → Clique m (v ∷ [])

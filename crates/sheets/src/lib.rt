@@ -1,4 +1,4 @@
-// Sheets.
-pub fn one() -> u8 {
-    1
-}
+// What a sheet is, what sets of its candidates weigh, and the table make of sheet.
+pub mod sheet;
+pub mod sums;
+pub mod table;

@@ -1,0 +1,4 @@
+pub mod Cliques
+pub mod Comes
+pub mod Heaviest
+pub mod Weights
