@@ -15,13 +15,13 @@ use Rattle.std.specs.declared.option.Option.the-variants.{Some}
 use Rattle.std.specs.shelf.Lists.{kept-by}
 use Rattle.std.specs.Orderings.{Decides}
 use Rattle.std.proofs.shelf.Elements.{kept-by-append}
-use Rattle.std.proofs.shelf.Tests.{cases-lt, cases-eq, lt-ltb, le-ltb, both-ways}
+use Rattle.std.proofs.shelf.Tests.{cases-lt, cases-eq, lt-ltb, le-ltb, both-ways, cond-true}
 use Rattle.std.proofs.shelf.Ways.{tells}
 use Rattle.candidates.specs.declared.set.CandidateSet.{CandidateSet}
 use Rattle.candidates.specs.Members.{bit, has, members}
 use Rattle.candidates.specs.Sets.{isIn, From, Ascending, counting, inserted, removed, least}
 use Rattle.candidates.proofs.Bits.{bit-none, bit-and, bit-or, bit-power, bit-complement, same-words, bit-below-trailing, trailing-below, bit-at-trailing, length-kept-from, ones-counts}
-use Rattle.candidates.proofs.Sets.{isIn-kept-by, isIn-counting, isIn-inserted, from-kept-by, from-counting, from-inserted, same-sets, least-is, kept-by-same, counting-append, cons-from-removed, length-kept-counting}
+use Rattle.candidates.proofs.Sets.{isIn-kept-by, isIn-counting, isIn-inserted, inserted-last, from-kept-by, from-counting, from-inserted, same-sets, least-is, kept-by-same, counting-append, cons-from-removed, length-kept-counting}
 
 -- ---- marks
 
@@ -131,6 +131,10 @@ members-added s r v h marks =
   where
     add : (b : Bool) (k : ℕ) → (b || (eqb k v && ltb k 256)) ≡ (eqb k v || b)
     add b k = grind (arith, tells)
+
+-- what is above all members goes to the end
+pub members-last : (s r : CandidateSet) (v : ℕ) → v < 256 → members r ≡ cond (ltb v 256) (inserted v (members s)) (members s) → ((k : ℕ) → isIn k (members s) ≡ true → k < v) → members r ≡ members s ++ v ∷ []
+members-last s r v h is above = is ∙ cond-true (ltb v 256) (inserted v (members s)) (members s) (lt-ltb v 256 h) ∙ inserted-last v (members s) above
 
 -- ---- one mark more, one mark less
 

@@ -1,0 +1,2 @@
+pub mod Branching
+pub mod Frames

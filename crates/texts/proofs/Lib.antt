@@ -1,0 +1,4 @@
+pub mod Scans
+pub mod Written
+pub mod Guarded
+pub mod Laws
