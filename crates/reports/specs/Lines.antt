@@ -1,0 +1,30 @@
+-- What is printed of a report and of a refusal.
+use mathlib.Core.List.{List, [], _∷_, _++_}
+use Prim.Native.Nat.{ℕ}
+use lib.Chars.{codes}
+use Rattle.std.specs.Written.{decimal}
+use Rattle.reports.specs.declared.refusal.Refusal.{Refusal}
+use Rattle.reports.specs.declared.refusal.Refusal.the-variants.{Text, Table}
+use Rattle.sheets.specs.declared.table.TableFault.{TableFault}
+use Rattle.sheets.specs.declared.table.TableFault.the-variants.{Size, Entries}
+use Rattle.sheets.specs.Tables.{tableNumber}
+use Rattle.texts.specs.Lines.{line}
+
+-- What an accepted table would have.
+abbrev pub reasonOf : TableFault → List ℕ
+reasonOf Size = codes "a sheet has 1 to 256 candidates"
+reasonOf Entries = codes "n candidates have n(n - 1)/2 entries"
+
+-- A table's fault by its number, and a text's fault as the text's own line.
+abbrev pub refusalLine : Refusal → List ℕ
+refusalLine (Text fault) = line fault
+refusalLine (Table fault) = codes "refused " ++ (decimal (tableNumber fault) ++ (codes ": " ++ reasonOf fault))
+
+-- Each number after a blank.
+abbrev pub listed : List ℕ → List ℕ
+listed [] = []
+listed (v ∷ vs) = (codes " " ++ decimal v) ++ listed vs
+
+-- The candidates, the set and its points, a line for each.
+abbrev pub reportLines : ℕ → List ℕ → ℕ → List ℕ
+reportLines n set points = codes "candidates " ++ (decimal n ++ (codes "\nset" ++ (listed set ++ (codes "\npoints " ++ decimal points))))

@@ -1,0 +1,40 @@
+// What is reported of a table: how many candidates it has, and the pairing.
+ghost use Rattle.std.specs.declared.option.Option.the-variants.{Some};
+ghost use Rattle.candidates.specs.Members.{members};
+ghost use Rattle.reports.specs.Lines.{listed, reportLines};
+use candidates::cursor::steps::MembersIterator;
+use candidates::set::CandidateSet;
+use exhaustive::pairing::Pairing;
+use std::fmt;
+
+#[derive(Clone, Copy)]
+pub struct Report {
+    pub candidates: usize,
+    pub pairing: Pairing,
+}
+
+// A set as its members, each after a blank.
+#[derive(Clone, Copy)]
+struct Listed(CandidateSet);
+
+impl fmt::Display for Listed as ListedDisplay {
+    ghost shown = { λ list. Some (listed (members (list .0))) };
+
+    fn fmt<W: fmt::Write>(&self, f: &mut fmt::Formatter<W>) -> fmt::Result {
+        for v in self.0.iter() {
+            write!(f, " {v}")?;
+        }
+        Ok(())
+    }
+}
+
+pub impl fmt::Display for Report as ReportDisplay {
+    ghost shown = { λ report. Some (reportLines (report .candidates) (members (report .pairing .set)) (report .pairing .points)) };
+
+    fn fmt<W: fmt::Write>(&self, f: &mut fmt::Formatter<W>) -> fmt::Result {
+        let candidates = self.candidates;
+        let set = Listed(self.pairing.set);
+        let points = self.pairing.points;
+        write!(f, "candidates {candidates}\nset{set}\npoints {points}")
+    }
+}
