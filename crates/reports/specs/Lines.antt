@@ -3,8 +3,11 @@ use mathlib.Core.List.{List, [], _∷_, _++_}
 use Prim.Native.Nat.{ℕ}
 use lib.Chars.{codes}
 use Rattle.std.specs.Written.{decimal}
+use Rattle.candidates.specs.Members.{members}
 use Rattle.reports.specs.declared.refusal.Refusal.{Refusal}
 use Rattle.reports.specs.declared.refusal.Refusal.the-variants.{Text, Table}
+use Rattle.reports.specs.declared.report.Report.{Report}
+use Rattle.rules.specs.Numbers.{numbersLine}
 use Rattle.sheets.specs.declared.table.TableFault.{TableFault}
 use Rattle.sheets.specs.declared.table.TableFault.the-variants.{Size, Entries}
 use Rattle.sheets.specs.Tables.{tableNumber}
@@ -25,6 +28,6 @@ abbrev pub listed : List ℕ → List ℕ
 listed [] = []
 listed (v ∷ vs) = (codes " " ++ decimal v) ++ listed vs
 
--- The candidates, the set and its points, a line for each.
-abbrev pub reportLines : ℕ → List ℕ → ℕ → List ℕ
-reportLines n set points = codes "candidates " ++ (decimal n ++ (codes "\nset" ++ (listed set ++ (codes "\npoints " ++ decimal points))))
+-- The candidates, the set and its points, a line for each, and the numbers of the rules on one.
+abbrev pub reportLines : Report → List ℕ
+reportLines r = codes "candidates " ++ (decimal (r .candidates) ++ (codes "\nset" ++ (listed (members (r .pairing .set)) ++ (codes "\npoints " ++ (decimal (r .pairing .points) ++ (codes "\n" ++ numbersLine (r .numbers)))))))

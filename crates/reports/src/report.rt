@@ -1,16 +1,19 @@
-// What is reported of a table: how many candidates it has, and the pairing.
+// What is reported of a table: how many candidates it has, the pairing, and the numbers of the bounding rules.
 ghost use Rattle.std.specs.declared.option.Option.the-variants.{Some};
 ghost use Rattle.candidates.specs.Members.{members};
 ghost use Rattle.reports.specs.Lines.{listed, reportLines};
 use candidates::cursor::steps::MembersIterator;
 use candidates::set::CandidateSet;
 use exhaustive::pairing::Pairing;
+use rules::numbers::Numbers;
+use rules::numbers::NumbersDisplay;
 use std::fmt;
 
 #[derive(Clone, Copy)]
 pub struct Report {
     pub candidates: usize,
     pub pairing: Pairing,
+    pub numbers: Numbers,
 }
 
 // A set as its members, each after a blank.
@@ -29,12 +32,16 @@ impl fmt::Display for Listed as ListedDisplay {
 }
 
 pub impl fmt::Display for Report as ReportDisplay {
-    ghost shown = { λ report. Some (reportLines (report .candidates) (members (report .pairing .set)) (report .pairing .points)) };
+    ghost shown = { λ report. Some (reportLines report) };
 
     fn fmt<W: fmt::Write>(&self, f: &mut fmt::Formatter<W>) -> fmt::Result {
         let candidates = self.candidates;
         let set = Listed(self.pairing.set);
         let points = self.pairing.points;
-        write!(f, "candidates {candidates}\nset{set}\npoints {points}")
+        let numbers = self.numbers;
+        write!(
+            f,
+            "candidates {candidates}\nset{set}\npoints {points}\n{numbers}"
+        )
     }
 }

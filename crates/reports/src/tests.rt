@@ -17,15 +17,30 @@ fn printed(heap: Global, text: &[u8]) -> Result<String, AllocError> {
 fn pairings(rt: LibcRuntime) -> Result<(), Fail> {
     let heap = rt.alloc();
     let lines = printed(heap, b"4\n5\n7 65535\n1 9 4\n")?;
-    check_eq(lines.as_str(), "candidates 4\nset 0 1 3\npoints 15")?;
+    check_eq(
+        lines.as_str(),
+        "candidates 4\nset 0 1 3\npoints 15\nflat 26 colour 15 path 21",
+    )?;
     let lines = printed(heap, b"3 65535 6 6")?;
-    check_eq(lines.as_str(), "candidates 3\nset 0 2\npoints 6")?;
+    check_eq(
+        lines.as_str(),
+        "candidates 3\nset 0 2\npoints 6\nflat 12 colour 6 path 12",
+    )?;
     let lines = printed(heap, b"2 0")?;
-    check_eq(lines.as_str(), "candidates 2\nset 0 1\npoints 0")?;
+    check_eq(
+        lines.as_str(),
+        "candidates 2\nset 0 1\npoints 0\nflat 0 colour 0 path 0",
+    )?;
     let lines = printed(heap, b"2 65535")?;
-    check_eq(lines.as_str(), "candidates 2\nset 0\npoints 0")?;
+    check_eq(
+        lines.as_str(),
+        "candidates 2\nset 0\npoints 0\nflat 0 colour 0 path 0",
+    )?;
     let lines = printed(heap, b"1")?;
-    check_eq(lines.as_str(), "candidates 1\nset 0\npoints 0")
+    check_eq(
+        lines.as_str(),
+        "candidates 1\nset 0\npoints 0\nflat 0 colour 0 path 0",
+    )
 }
 
 #[test]

@@ -1,0 +1,5 @@
+pub mod Arrays
+pub mod Colouring
+pub mod Inside
+pub mod Lengths
+pub mod Walks

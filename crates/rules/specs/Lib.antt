@@ -1,0 +1,13 @@
+pub mod Arrays
+pub mod Bounds
+pub mod Sums
+pub mod Greatest
+pub mod Flat
+pub mod FlatBounds
+pub mod Lesser
+pub mod Colour
+pub mod Classes
+pub mod ColourBounds
+pub mod Path
+pub mod PathBounds
+pub mod Numbers
