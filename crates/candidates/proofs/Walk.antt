@@ -2,7 +2,7 @@
 use mathlib.Core.Bool.{Bool, true, false, not, _&&_}
 use mathlib.Core.List.{List, [], _∷_}
 use mathlib.Core.Logic.{⊎-elim, inl, inr}
-use mathlib.Core.Path.{_≡_, refl, sym, ap, _∙_}
+use mathlib.Core.Path.{_≡_, sym, ap, subst, _∙_}
 use Prim.Native.Nat.{ℕ, suc, _+_, _-_, _*_, _/_, _%_, _^_, _<_, _≤_}
 use native.Mathlib.Omega.{arith}
 use lib.Bits.{bitAnd}
@@ -20,7 +20,7 @@ use Rattle.candidates.specs.Sets.{isIn, Ascending}
 use Rattle.candidates.specs.Walk.{current, remaining}
 use Rattle.candidates.proofs.Bits.{bit-none, bit-cleared, bit-below-trailing, trailing-below, bit-at-trailing}
 use Rattle.candidates.proofs.Marks.{has-changed, has-unchanged, has-inside, has-outside, isIn-members, members-from, and-true}
-use Rattle.candidates.proofs.Sets.{isIn-kept-by, from-kept-by, kept-by-all, same-sets, cons-from-least}
+use Rattle.candidates.proofs.Sets.{in-first, not-in-below, isIn-kept-by, from-kept-by, kept-by-all, same-sets, cons-from-least}
 
 -- the set that is walked through
 abbrev whole : Members → CandidateSet
@@ -122,3 +122,14 @@ remaining-taken s t four narrow some words place word =
     (λ h behind.
     let other : eqb k v ≡ false = grind (arith, tells) in
     remaining-behind t k h (omega arith) ∙ ap (λ ws. has (record { words = ws }) k) words ∙ sym (remaining-behind s k h behind) ∙ sym (and-true (isIn k (remaining s))) ∙ ap (λ b. isIn k (remaining s) && not b) (sym other)))
+
+-- ---- what a walk gives: numbers below 256, each once
+
+remaining-below : (s : Members) (k : ℕ) → isIn k (remaining s) ≡ true → k < 256
+remaining-below s k e = ⊎-elim (λ h. h) (λ h. absurd (both-ways (isIn k (remaining s)) (remaining-outside s k h) e)) (cases-lt k 256)
+
+pub next-below : (s t : Members) (v : ℕ) → remaining s ≡ v ∷ remaining t → v < 256
+next-below s t v next = remaining-below s v (subst (λ l. isIn v l ≡ true) (sym next) (in-first v (remaining t)))
+
+pub next-once : (s t : Members) (v : ℕ) → remaining s ≡ v ∷ remaining t → isIn v (remaining t) ≡ false
+next-once s t v next = not-in-below (suc v) v (remaining t) (subst Ascending next (remaining-rises s) .1) (omega arith)

@@ -1,19 +1,19 @@
 -- The colour rule one class after another, and a class one pick after another.
-use mathlib.Core.Bool.{Bool, true, false, not, cond, _||_}
+use mathlib.Core.Bool.{true, not, cond}
 use mathlib.Core.List.{List, [], _∷_}
 use mathlib.Core.Path.{_≡_, refl, sym, ap, subst, _∙_, fun-ext}
 use Prim.Native.Nat.{ℕ, zero, suc, _+_, _≤_, _<_}
 use native.Mathlib.Omega.{arith}
 use lib.Dec.{eqb}
 use lib.ListN.{length}
-use Rattle.std.specs.declared.option.Option.the-variants.{Some, None}
+use Rattle.std.specs.declared.option.Option.the-variants.{Some}
 use Rattle.std.specs.Options.{isSome}
 use Rattle.std.proofs.shelf.Tests.{false≢true, eq-eqb, not-from-true}
 use Rattle.candidates.specs.Sets.{isIn, removed, without}
 use Rattle.candidates.proofs.Sets.{kept-by-same, sub-kept-by, length-sub}
 use Rattle.sheets.specs.Meaning.{Meaning}
 use Rattle.rules.specs.Greatest.{greatest, le-greatest, greatest-le}
-use Rattle.rules.specs.Colour.{leastBy, leastOf, joinable, class, classOf, rise, raised, coloured, sumOfHighest}
+use Rattle.rules.specs.Colour.{leastBy, leastOf, joinable, class, classOf, raised, coloured, sumOfHighest}
 use Rattle.rules.specs.Classes.{leastBy-in, length-kept-by-less, length-left}
 
 -- ---- the one of least σ
@@ -51,10 +51,6 @@ classOf-more m σ v (x ∷ xs) is =
     ap (λ l. leastBy σ x xs ∷ l) (class-enough m σ (length xs) (length rest) rest (omega arith) (omega arith))
     ∙ ap (λ y. y ∷ classOf m σ (joinable m y (x ∷ xs))) same
 
-pub classOf-none : (m : Meaning) (σ : ℕ → ℕ) (xs : List ℕ) → None ≡ leastOf σ xs → classOf m σ xs ≡ []
-classOf-none m σ [] is = refl
-classOf-none m σ (x ∷ xs) is = absurd (false≢true (ap isSome is))
-
 -- ---- the classes
 
 -- more classes than there are candidates change nothing
@@ -71,7 +67,7 @@ coloured-enough m (suc n) (suc k) σ (x ∷ xs) h g =
 greatest-within : (f : ℕ → ℕ) (xs ys : List ℕ) → ((k : ℕ) → isIn k xs ≡ isIn k ys) → greatest f xs ≤ greatest f ys
 greatest-within f xs ys same = greatest-le f (greatest f ys) xs (λ k e. le-greatest f k ys (sym (same k) ∙ e))
 
-pub greatest-same : (f : ℕ → ℕ) (xs ys : List ℕ) → ((k : ℕ) → isIn k xs ≡ isIn k ys) → greatest f xs ≡ greatest f ys
+greatest-same : (f : ℕ → ℕ) (xs ys : List ℕ) → ((k : ℕ) → isIn k xs ≡ isIn k ys) → greatest f xs ≡ greatest f ys
 greatest-same f xs ys same = omega (arith, greatest-within f xs ys same, greatest-within f ys xs (λ k. sym (same k)))
 
 raised-same : (m : Meaning) (K L left : List ℕ) (σ : ℕ → ℕ) → ((k : ℕ) → isIn k K ≡ isIn k L) → raised m K left σ ≡ raised m L left σ

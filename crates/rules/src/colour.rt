@@ -67,7 +67,7 @@ fn rise<S: Sheet>(sheet: &S, class: CandidateSet, v: usize) -> u64
     most
 }
 
-// Raises σ for each that a class leaves.
+// Raises σ for each that a class leaves. It has room: it is at most 512 times the most points of two.
 fn raise<S: Sheet>(sheet: &S, class: CandidateSet, left: CandidateSet, sigma: &mut [u64; 256])
     requires { ⌜ ((k : ℕ) → at (now sigma) k ≤ 33553408) ⌝ }
     ensures { λ _. ⌜ ((k : ℕ) → at (now (sigma .exit)) k ≡ raised (S·Sheet .meaning (now (sheet .entry))) (members class) (members left) (at (now (sigma .entry))) k) ⌝ }
@@ -77,7 +77,7 @@ fn raise<S: Sheet>(sheet: &S, class: CandidateSet, left: CandidateSet, sigma: &m
     }
 }
 
-// The sum of the highest σ of each class.
+// The sum of the highest σ of each class, where σ starts at no more than 256 times the most points of two.
 fn coloured<S: Sheet>(sheet: &S, mut sigma: [u64; 256], s: CandidateSet) -> u64
     requires { ⌜ ((k : ℕ) → at sigma k ≤ 16776704) ⌝ }
     ensures { λ r. ⌜ r ≡ sumOfHighest (colouredBy (S·Sheet .meaning (now (sheet .entry))) (length (members s)) (at sigma) (members s)) ⌝ }

@@ -1,7 +1,5 @@
 use mathlib.Core.Bool.{true}
-use mathlib.Core.List.{List, [], _∷_}
 use mathlib.Core.Path.{_≡_, refl, sym, ap, subst, _∙_}
-use Prim.Native.Nat.{ℕ}
 use native.Mathlib.Omega.{arith}
 use lib.Dec.{ltb}
 use Rattle.std.proofs.shelf.Tests.{cond-true, lt-ltb}
@@ -12,7 +10,7 @@ use Rattle.candidates.proofs.Marks.{members-from, members-below}
 use Rattle.candidates.proofs.Sets.{in-first, cons-from-removed}
 use Rattle.rules.specs.Arrays.{at}
 use Rattle.rules.specs.Colour.{leastBy}
-use Rattle.rules.proofs.Walks.{next-below}
+use Rattle.candidates.proofs.Walk.{next-below}
 use Rattle.rules.proofs.colour.least_by.Needs as need
 
 pub loop-v-holds : need.loop-v-holds

@@ -1,4 +1,4 @@
-use mathlib.Core.Bool.{true, false, cond}
+use mathlib.Core.Bool.{true, false}
 use mathlib.Core.List.{List, _∷_}
 use mathlib.Core.Path.{_≡_, sym, ap, _∙_}
 use Prim.Native.Nat.{ℕ, _+_, _<_}
@@ -16,7 +16,7 @@ use Rattle.rules.specs.Arrays.{at}
 use Rattle.rules.specs.Colour.{rise, raised}
 use Rattle.rules.specs.ColourBounds.{raised-le}
 use Rattle.rules.proofs.Arrays.{at-set}
-use Rattle.rules.proofs.Walks.{next-below, next-once}
+use Rattle.candidates.proofs.Walk.{next-below, next-once}
 use Rattle.rules.proofs.colour.raise.Needs as need
 
 pub offset-sigma-v : need.offset-sigma-v

@@ -4,7 +4,7 @@ use mathlib.Core.Path.{_≡_, refl, sym, ap, _∙_}
 use Prim.Native.Nat.{ℕ, _<_}
 use native.Mathlib.Omega.{arith}
 use lib.Dec.{eqb}
-use lib.ListN.{length, set, replicate}
+use lib.ListN.{length, set}
 use Rattle.std.proofs.shelf.Lists.{length-set}
 use Rattle.std.proofs.shelf.Tests.{eqb-true}
 use Rattle.std.proofs.shelf.Ways.{tells}
@@ -14,7 +14,7 @@ use Rattle.candidates.specs.Walk.{remaining}
 use Rattle.sheets.specs.Weights.{rho}
 use Rattle.rules.specs.Arrays.{at}
 use Rattle.rules.proofs.Arrays.{at-set, at-zeros}
-use Rattle.rules.proofs.Walks.{next-below}
+use Rattle.candidates.proofs.Walk.{next-below}
 use Rattle.rules.proofs.colour.started.Needs as need
 
 pub loop-v-holds : need.loop-v-holds

@@ -1,5 +1,5 @@
 use native.Mathlib.Omega.{arith}
-use Rattle.rules.proofs.Walks.{next-below}
+use Rattle.candidates.proofs.Walk.{next-below}
 use Rattle.rules.proofs.greatest.greatest_of.Needs as need
 
 pub offset-values-u : need.offset-values-u

@@ -1,9 +1,9 @@
-use mathlib.Core.List.{List, [], _∷_, _++_}
+use mathlib.Core.List.{[], _∷_, _++_}
 use mathlib.Core.Path.{_≡_, refl, sym, ap, subst, _∙_}
-use Prim.Native.Nat.{ℕ, max, _<_}
+use Prim.Native.Nat.{max, _<_}
 use native.Mathlib.Omega.{arith}
 use lib.Dec.{ltb}
-use lib.ListN.{set, length}
+use lib.ListN.{length}
 use Rattle.std.proofs.shelf.Lists.{append-assoc, length-set}
 use Rattle.std.proofs.shelf.Tests.{cond-true, lt-ltb}
 use Rattle.candidates.specs.Members.{members}
@@ -13,7 +13,7 @@ use Rattle.candidates.proofs.Marks.{members-from}
 use Rattle.rules.specs.Arrays.{at}
 use Rattle.rules.specs.Path.{longest}
 use Rattle.rules.proofs.Lengths.{inserted-next, noted-at, longest-none, longest-more}
-use Rattle.rules.proofs.Walks.{next-below}
+use Rattle.candidates.proofs.Walk.{next-below}
 use Rattle.rules.proofs.path.longest.Given as given
 use Rattle.rules.proofs.path.longest.Needs as need
 use Rattle.rules.proofs.path.longest.Needs.{After-max-most}

@@ -1,4 +1,4 @@
-use mathlib.Core.List.{[], _++_}
+use mathlib.Core.List.{_++_}
 use mathlib.Core.Path.{_≡_}
 use Prim.Native.Nat.{max}
 use lib.ListN.{length}

@@ -1,4 +1,4 @@
-use mathlib.Core.Path.{_≡_, ap, _∙_, fun-ext}
+use mathlib.Core.Path.{ap, _∙_, fun-ext}
 use native.Mathlib.Omega.{arith}
 use lib.ListN.{length}
 use Rattle.candidates.specs.Members.{members}
