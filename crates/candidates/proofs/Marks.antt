@@ -21,7 +21,7 @@ use Rattle.candidates.specs.declared.set.CandidateSet.{CandidateSet}
 use Rattle.candidates.specs.Members.{bit, has, members}
 use Rattle.candidates.specs.Sets.{isIn, From, Ascending, counting, inserted, removed, least}
 use Rattle.candidates.proofs.Bits.{bit-none, bit-and, bit-or, bit-power, bit-complement, same-words, bit-below-trailing, trailing-below, bit-at-trailing, length-kept-from, ones-counts}
-use Rattle.candidates.proofs.Sets.{isIn-kept-by, isIn-counting, isIn-inserted, inserted-last, from-kept-by, from-counting, from-inserted, same-sets, least-is, kept-by-same, counting-append, cons-from-removed, length-kept-counting}
+use Rattle.candidates.proofs.Sets.{and-comm, isIn-kept-by, isIn-counting, isIn-inserted, inserted-last, from-kept-by, from-counting, from-inserted, same-sets, least-is, kept-by-same, counting-append, cons-from-removed, length-kept-counting}
 
 -- ---- marks
 
@@ -115,9 +115,6 @@ members-lowest s r v lowest others = cons-from-removed v (members s) (members-fr
 -- the members are any ascending list that has what the set has
 pub members-by : (s : CandidateSet) (xs : List ℕ) → Ascending xs → ((k : ℕ) → has s k ≡ isIn k xs) → members s ≡ xs
 members-by s xs up same = same-sets 0 0 (members s) xs (members-from s) up (λ k. isIn-members s k ∙ same k)
-
-and-comm : (a b : Bool) → (a && b) ≡ (b && a)
-and-comm a b = grind (arith, tells)
 
 pub members-kept : (s r : CandidateSet) (p : ℕ → Bool) → ((k : ℕ) → has r k ≡ (has s k && p k)) → members r ≡ kept-by p (members s)
 members-kept s r p marks =

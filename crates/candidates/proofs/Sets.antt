@@ -15,6 +15,12 @@ use Rattle.std.proofs.shelf.Ways.{tells}
 use Rattle.candidates.specs.Sets.{isIn, Within, From, Ascending, counting, inserted, removed, least, Sub}
 use Rattle.candidates.specs.Sets.Sub.{none, skip, keep}
 
+pub and-comm : (a b : Bool) → (a && b) ≡ (b && a)
+and-comm true true = refl
+and-comm true false = refl
+and-comm false true = refl
+and-comm false false = refl
+
 pub in-first : (x : ℕ) (xs : List ℕ) → isIn x (x ∷ xs) ≡ true
 in-first x xs = grind (arith, tells)
 
@@ -71,9 +77,6 @@ counting-append a (suc m) n =
     let start : suc a + m ≡ a + suc m = omega arith in
     let count : suc m + n ≡ suc (m + n) = omega arith in
     ap (counting a) count ∙ ap (λ l. a ∷ l) (counting-append (suc a) m n ∙ ap (λ b. counting (suc a) m ++ counting b n) start)
-
-pub counting-next : (a n : ℕ) → counting a (suc n) ≡ counting a n ++ (a + n) ∷ []
-counting-next a n = let count : suc n ≡ n + 1 = omega arith in ap (counting a) count ∙ counting-append a n 1
 
 pub length-counting : (a n : ℕ) → length (counting a n) ≡ n
 length-counting a zero = refl

@@ -5,24 +5,22 @@ use mathlib.Core.Path.{_≡_}
 use Prim.Native.Nat.{ℕ}
 use Rattle.std.specs.declared.result.Result.{Result}
 use Rattle.std.specs.declared.result.Result.the-variants.{Ok, Err}
-use Rattle.candidates.specs.Members.{members}
 use Rattle.reports.specs.declared.refusal.Refusal.{Refusal}
 use Rattle.reports.specs.declared.refusal.Refusal.the-variants.{Text, Table}
 use Rattle.reports.specs.declared.report.Report.{Report}
+use Rattle.reports.specs.Reports.{Reports}
 use Rattle.sheets.specs.declared.table.TableFault.{TableFault}
-use Rattle.rules.specs.Numbers.{numbersOf}
-use Rattle.sheets.specs.Heaviest.{FirstHeaviest}
 use Rattle.sheets.specs.Tables.{table, tableJudged}
 use Rattle.texts.specs.declared.faults.TextFault.the-variants.{Memory}
 use Rattle.texts.specs.Reading.{read}
 
--- The text holds an accepted table, and the report has its size, the first of its heaviest cliques, and the rules' numbers.
+-- The text holds an accepted table, and the report is on its sheet.
 pub record Reported (text : List ℕ) (report : Report) : Type 0 where
+  pub size : ℕ
   pub entries : List ℕ
-  pub holds : read text ≡ Ok (report .candidates ∷ entries)
-  pub accepted : tableJudged (report .candidates) entries ≡ Ok tt
-  pub heaviest : FirstHeaviest (table (report .candidates) entries) (members (report .pairing .set)) (report .pairing .points)
-  pub numbers : report .numbers ≡ numbersOf (table (report .candidates) entries)
+  pub holds : read text ≡ Ok (size ∷ entries)
+  pub accepted : tableJudged size entries ≡ Ok tt
+  pub reports : Reports (table size entries) report
 
 -- The text holds a table that is refused with this fault.
 pub record Refused (text : List ℕ) (fault : TableFault) : Type 0 where

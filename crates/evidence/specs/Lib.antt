@@ -1,0 +1,4 @@
+pub mod Evidence
+pub mod Judged
+pub mod Laws
+pub mod Worked

@@ -1,0 +1,12 @@
+pub mod Cases
+pub mod Holding
+pub mod Invariant
+pub mod First
+pub mod Ceilings
+pub mod Nodes
+pub mod Offers
+pub mod Grants
+pub mod Runs
+pub mod Told
+pub mod Promised
+pub mod ByHand

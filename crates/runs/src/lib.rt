@@ -1,0 +1,4 @@
+// Runs.
+pub fn one() -> u8 {
+    1
+}

@@ -1,0 +1,4 @@
+pub mod Judged
+pub mod Striking
+pub mod Laws
+pub mod Moves
