@@ -1,5 +1,7 @@
 // Each rule's number against the greatest gain of all cliques, on made sheets and sets.
 use crate::gains::greatest_gain;
+use crate::made::made_entries;
+use crate::made::made_set;
 use crate::random::Random;
 use candidates::set::CandidateSet;
 use rules::colour::Colour;
@@ -25,42 +27,6 @@ pub(crate) struct Tally {
     too_low: u32,
     above_flat: u32,
     lesser_wrong: u32,
-}
-
-// A made entry: apart in this many of a hundred cases, else 0 to 2, below 100, or any points.
-fn made_entry(random: &mut Random, apart: usize, height: usize) -> u16 {
-    if random.below(100) < apart {
-        return 65535;
-    }
-    let points = match height {
-        0 => random.below(3),
-        1 => random.below(100),
-        _ => random.below(65535),
-    };
-    (points & 0xffff) as u16
-}
-
-fn made_entries(heap: Global, random: &mut Random, n: usize) -> Result<Vec<u16>, AllocError> {
-    let apart = random.below(100);
-    let height = random.below(3);
-    let mut entries = Vec::new(heap);
-    for v in 0..n {
-        for _ in 0..v {
-            entries.push(made_entry(random, apart, height))?;
-        }
-    }
-    Ok(entries)
-}
-
-// A made set: each of the first 16 numbers by chance, so that some are no candidates.
-fn made_set(random: &mut Random) -> CandidateSet {
-    let mut set = CandidateSet::empty();
-    for v in 0..16 {
-        if random.below(2) == 1 {
-            set = set.with(v);
-        }
-    }
-    set
 }
 
 impl Tally {

@@ -1,0 +1,4 @@
+pub mod Stacks
+pub mod Shown
+pub mod Branches
+pub mod View

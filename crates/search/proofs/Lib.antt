@@ -1,0 +1,4 @@
+pub mod Advance
+pub mod Written
+pub mod Offers
+pub mod Answered

@@ -1,0 +1,5 @@
+pub mod Refusals
+pub mod Offers
+pub mod Replies
+pub mod Replay
+pub mod Searching
