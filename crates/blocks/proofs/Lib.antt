@@ -1,0 +1,5 @@
+pub mod Numbers
+pub mod Sums
+pub mod Asked
+pub mod Parts
+pub mod Accepted

@@ -1,0 +1,10 @@
+use mathlib.Core.Path.{sym}
+use native.Mathlib.Omega.{arith}
+use Rattle.blocks.proofs.Numbers.{number-four, number-past}
+use Rattle.blocks.proofs.bytes.u32_at.Needs as need
+
+pub returns-then-place-bytes : need.returns-then-place-bytes
+returns-then-place-bytes c = sym (number-past 4 (c .args .place) (c .args .bytes .now) (c .if-place-bytes .taken))
+
+pub returns : need.returns
+returns c = omega (arith, number-four (c .args .place) (c .args .bytes .now))

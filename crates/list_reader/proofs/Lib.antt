@@ -1,0 +1,5 @@
+pub mod Places
+pub mod Turns
+pub mod Halving
+pub mod Known
+pub mod Meanings

@@ -1,0 +1,13 @@
+pub mod Keys
+pub mod Replaced
+pub mod Sizes
+pub mod Steps
+pub mod Chunks
+pub mod Ordered
+pub mod Sealed
+pub mod Reading
+pub mod Canonical
+pub mod Looks
+pub mod Pairs
+pub mod Rounds
+pub mod Worked
