@@ -78,6 +78,9 @@ counting-append a (suc m) n =
     let count : suc m + n ≡ suc (m + n) = omega arith in
     ap (counting a) count ∙ ap (λ l. a ∷ l) (counting-append (suc a) m n ∙ ap (λ b. counting (suc a) m ++ counting b n) start)
 
+pub counting-next : (a n : ℕ) → counting a (suc n) ≡ counting a n ++ (a + n) ∷ []
+counting-next a n = let count : suc n ≡ n + 1 = omega arith in ap (counting a) count ∙ counting-append a n 1
+
 pub length-counting : (a n : ℕ) → length (counting a n) ≡ n
 length-counting a zero = refl
 length-counting a (suc n) = ap suc (length-counting (suc a) n)
