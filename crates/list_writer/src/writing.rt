@@ -8,6 +8,7 @@ ghost use Rattle.blocks.specs.Bytes.{lowFirst};
 ghost use Rattle.blocks.specs.Format.{recordsFrom, recordBytes, content, sealed};
 ghost use Rattle.list_writer.specs.Buffers.{bufferAfter, replaced, writeJudged};
 ghost use Rattle.list_writer.specs.Rounds.{RoundTrip};
+ghost use Rattle.list_writer.specs.Worked.{WorkedLists};
 use crate::faults::WriteFault;
 use crate::records::count_records;
 use crate::records::next_key;
@@ -92,6 +93,7 @@ pub fn write_list<S: Sheet>(sheet: &S, buffer: &mut [u8]) -> Result<usize, Write
     ensures value { λ r. ⌜ r ≡ writeJudged (S·Sheet .meaning (now (sheet .entry))) (now (buffer .entry)) ⌝ }
     ensures after { λ _. ⌜ now (buffer .exit) ≡ bufferAfter (S·Sheet .meaning (now (sheet .entry))) (now (buffer .entry)) ⌝ }
     ensures round { λ _. ⌜ RoundTrip (S·Sheet .meaning (now (sheet .entry))) ⌝ }
+    ensures worked { λ _. ⌜ WorkedLists ⌝ }
 {
     let count = count_records(sheet);
     let blocks = ((count + 125) / 126).max(1);

@@ -8,6 +8,7 @@ use Rattle.std.specs.declared.result.Result.the-variants.{Ok, Err}
 use Rattle.std.proofs.shelf.Lists.{length-drop}
 use Rattle.std.proofs.shelf.Tests.{cond-true, cond-false, le-leb, lt-leb}
 use Rattle.blocks.specs.Format.{blocksFor, records, recordsFrom, written}
+use Rattle.list_writer.proofs.Worked.{worked-lists}
 use Rattle.list_writer.proofs.Rounds.{round-trip}
 use Rattle.list_writer.proofs.Steps.{replaced-none, block-put, block-rest, length-written, written-put}
 use Rattle.list_writer.proofs.writing.write_list.Needs as need
@@ -20,6 +21,7 @@ returns-then-buffer-blocks g c =
       value = sym (cond-false _ _ _ short);
       after = sym (cond-false _ _ _ short);
       round = round-trip m (g .S·Sheet .lawful (c .args .sheet .now));
+      worked = worked-lists;
     }
 
 pub loop-place-holds : need.loop-place-holds
@@ -48,4 +50,5 @@ returns g c =
       value = ap Ok bytes ∙ sym (cond-true _ _ _ enough);
       after = written-put m (c .loop-place .place) (c .args .buffer .now) (c .loop-place .buffer) all (c .loop-place .inv .0) ∙ sym (cond-true _ _ _ enough);
       round = round-trip m (g .S·Sheet .lawful (c .args .sheet .now));
+      worked = worked-lists;
     }

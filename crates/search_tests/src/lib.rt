@@ -1,0 +1,3 @@
+// Worked lists of calls on a search.
+#[cfg(test)]
+mod tests;
