@@ -49,7 +49,7 @@ fn sheet_a_as_a_list() -> Result<(), Fail> {
         0,
         0,
     ];
-    check_eq(&buffer[..25], &start[..])?;
+    check_eq(&buffer[0..25], &start[0..25])?;
     check_eq(check_of(&buffer), 664)?;
     check_eq(&buffer[507..514], &[0u8, 152, 2, 0, 0, 7, 7][..])
 }
@@ -64,7 +64,7 @@ fn short_buffer() -> Result<(), Fail> {
         Ok(_) => return Err(Fail::new("written")),
         Err(fault) => check_eq(fault.number(), 51)?,
     }
-    check_eq(&buffer[..4], &[7u8, 7, 7, 7][..])
+    check_eq(&buffer[0..4], &[7u8, 7, 7, 7][..])
 }
 
 // The sheet with 17 candidates where all fit and have 3 points: 136 pairs in two blocks.
@@ -84,18 +84,18 @@ fn two_blocks() -> Result<(), Fail> {
         check_eq(list.points(4, 16), 3)?;
     }
     let mut copied = [0u8; 1100];
-    let Ok(count) = copy_list(&buffer[..1024], &mut copied) else {
+    let Ok(count) = copy_list(&buffer[0..1024], &mut copied) else {
         return Err(Fail::new("not copied"));
     };
     check_eq(count, 1024)?;
-    check_eq(&copied[..1024], &buffer[..1024])?;
+    check_eq(&copied[0..1024], &buffer[0..1024])?;
     // The first pair of the last block is now the last of the block before it.
     copied[516] = buffer[504];
     copied[517] = buffer[505];
     let sum = check_of(&copied[512..]);
     copied[1020] = (sum % 256) as u8;
     copied[1021] = (sum / 256 % 256) as u8;
-    match check_list(&copied[..1024]) {
+    match check_list(&copied[0..1024]) {
         Ok(()) => Err(Fail::new("accepted")),
         Err(fault) => {
             let refusal = fault.refusal();

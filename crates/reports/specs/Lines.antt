@@ -1,9 +1,11 @@
 -- What is printed of a report and of a refusal.
+use mathlib.Core.Bool.{Bool, true, false}
 use mathlib.Core.List.{List, [], _∷_, _++_}
 use Prim.Native.Nat.{ℕ}
 use lib.Chars.{codes}
 use Rattle.std.specs.Written.{decimal}
 use Rattle.candidates.specs.Members.{members}
+use Rattle.reports.specs.declared.found.Found.{Found}
 use Rattle.reports.specs.declared.refusal.Refusal.{Refusal}
 use Rattle.reports.specs.declared.refusal.Refusal.the-variants.{Text, Table}
 use Rattle.reports.specs.declared.report.Report.{Report}
@@ -28,6 +30,14 @@ abbrev pub listed : List ℕ → List ℕ
 listed [] = []
 listed (v ∷ vs) = (codes " " ++ decimal v) ++ listed vs
 
--- The candidates, the set and its points, a line for each, and the numbers of the rules on one.
+abbrev pub yesOrNo : Bool → List ℕ
+yesOrNo true = codes "yes"
+yesOrNo false = codes "no"
+
+-- The set that a search found, its points and the ceiling, and how far it came, a line for each.
+abbrev pub foundLines : Found → List ℕ
+foundLines f = codes "search" ++ (listed (members (f .set)) ++ (codes "\nsearch points " ++ (decimal (f .points) ++ (codes " ceiling " ++ (decimal (f .ceiling) ++ (codes "\nfinished " ++ (yesOrNo (f .finished) ++ (codes " nodes " ++ decimal (f .nodes)))))))))
+
+-- The candidates, the set and its points, a line for each, the numbers of the rules on one, and what a search found.
 abbrev pub reportLines : Report → List ℕ
-reportLines r = codes "candidates " ++ (decimal (r .candidates) ++ (codes "\nset" ++ (listed (members (r .pairing .set)) ++ (codes "\npoints " ++ (decimal (r .pairing .points) ++ (codes "\n" ++ numbersLine (r .numbers)))))))
+reportLines r = codes "candidates " ++ (decimal (r .candidates) ++ (codes "\nset" ++ (listed (members (r .pairing .set)) ++ (codes "\npoints " ++ (decimal (r .pairing .points) ++ (codes "\n" ++ (numbersLine (r .numbers) ++ (codes "\n" ++ foundLines (r .found)))))))))

@@ -19,27 +19,27 @@ fn pairings(rt: LibcRuntime) -> Result<(), Fail> {
     let lines = printed(heap, b"4\n5\n7 65535\n1 9 4\n")?;
     check_eq(
         lines.as_str(),
-        "candidates 4\nset 0 1 3\npoints 15\nflat 26 colour 15 path 21",
+        "candidates 4\nset 0 1 3\npoints 15\nflat 26 colour 15 path 21\nsearch 0 1 3\nsearch points 15 ceiling 15\nfinished yes nodes 7",
     )?;
     let lines = printed(heap, b"3 65535 6 6")?;
     check_eq(
         lines.as_str(),
-        "candidates 3\nset 0 2\npoints 6\nflat 12 colour 6 path 12",
+        "candidates 3\nset 0 2\npoints 6\nflat 12 colour 6 path 12\nsearch 0 2\nsearch points 6 ceiling 6\nfinished yes nodes 5",
     )?;
     let lines = printed(heap, b"2 0")?;
     check_eq(
         lines.as_str(),
-        "candidates 2\nset 0 1\npoints 0\nflat 0 colour 0 path 0",
+        "candidates 2\nset 0 1\npoints 0\nflat 0 colour 0 path 0\nsearch 0 1\nsearch points 0 ceiling 0\nfinished yes nodes 5",
     )?;
     let lines = printed(heap, b"2 65535")?;
     check_eq(
         lines.as_str(),
-        "candidates 2\nset 0\npoints 0\nflat 0 colour 0 path 0",
+        "candidates 2\nset 0\npoints 0\nflat 0 colour 0 path 0\nsearch 0\nsearch points 0 ceiling 0\nfinished yes nodes 3",
     )?;
     let lines = printed(heap, b"1")?;
     check_eq(
         lines.as_str(),
-        "candidates 1\nset 0\npoints 0\nflat 0 colour 0 path 0",
+        "candidates 1\nset 0\npoints 0\nflat 0 colour 0 path 0\nsearch 0\nsearch points 0 ceiling 0\nfinished yes nodes 3",
     )
 }
 
