@@ -4,14 +4,15 @@ use candidates::set::CandidateSet;
 use std::alloc::AllocError;
 use std::alloc::Global;
 
-// A made entry: apart in this many of a hundred cases, else 0 to 2, below 100, or any points.
+// A made entry: apart in this many of a hundred cases, else 0, 0 to 2, below 100, or any points.
 fn made_entry(random: &mut Random, apart: usize, height: usize) -> u16 {
     if random.below(100) < apart {
         return 65535;
     }
     let points = match height {
-        0 => random.below(3),
-        1 => random.below(100),
+        0 => 0,
+        1 => random.below(3),
+        2 => random.below(100),
         _ => random.below(65535),
     };
     (points & 0xffff) as u16
@@ -22,8 +23,13 @@ pub(crate) fn made_entries(
     random: &mut Random,
     n: usize,
 ) -> Result<Vec<u16>, AllocError> {
-    let apart = random.below(100);
-    let height = random.below(3);
+    // In some tables everything fits, in some nothing.
+    let apart = match random.below(8) {
+        0 => 0,
+        1 => 100,
+        _ => random.below(100),
+    };
+    let height = random.below(4);
     let mut entries = Vec::new(heap);
     for v in 0..n {
         for _ in 0..v {

@@ -149,7 +149,11 @@ impl Searches {
             set_wrong: 0,
         };
         for _ in 0..1500 {
-            let n = 1 + random.below(12);
+            let n = if random.below(100) == 0 {
+                13 + random.below(6)
+            } else {
+                1 + random.below(12)
+            };
             let entries = made_entries(heap, &mut random, n)?;
             if let Ok(sheet) = TableSheet::new(n, entries.as_slice()) {
                 all.judge(heap, &mut random, sheet, Flat)?;
