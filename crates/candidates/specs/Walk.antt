@@ -1,5 +1,5 @@
 -- What a walk through a set has yet to give.
-use Rattle.std.specs.Prelude.{ℕ, ◌*◌, List, set, filter, nat_le, slice_set}
+use Rattle.std.specs.Prelude.{ℕ, ◌*◌, List, filter, nat_le, slice_set}
 use Rattle.candidates.specs.declared.cursor.Members.{Members}
 use Rattle.candidates.specs.declared.set.CandidateSet.{CandidateSet}
 use Rattle.candidates.specs.Members.{members}

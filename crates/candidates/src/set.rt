@@ -1,8 +1,10 @@
 // A candidate set and what can be done with it. Every number is accepted; those from 256 on are never members.
-ghost use Rattle.std.specs.Prelude.{◌≡◌, ℕ, ◌<◌, min, true, false, not, ◌&&◌, ◌||◌, ltb, List, [], length, if◌then◌else◌, Decides, ◌==◌, nat_lt};
+ghost use Rattle.std.specs.Prelude.{◌≡◌, ℕ, ◌<◌, min, true, false, not, ◌&&◌, ◌||◌, ltb, List, [], length, if◌then◌else◌, Decides, ◌==◌, nat_lt, nat_eq};
 ghost use Rattle.candidates.specs.Members.{bit, has, members};
 ghost use Rattle.candidates.specs.Sets.{is_in, counting, inserted, removed, common, without, least};
+ghost use Rattle.std.specs.Cmp.Lexicographic.{pointwise};
 ghost use Rattle.std.specs.Cmp.Rules.{comparing};
+ghost use Rattle.std.specs.Ordering.{on};
 ghost use Rattle.std.proofs.Common.{rules};
 
 // 256 yes-or-no marks, 64 to a word: candidate k is mark k % 64 of word k / 64.
@@ -122,11 +124,15 @@ impl CandidateSet {
 
 impl PartialEq for CandidateSet {
     // Sets with the same members are the same value.
-    ghost equals = { λ a b r. Decides r (members a ≡ members b) × Decides r (a ≡ b) };
+    ghost eq = { on members (pointwise nat_eq) };
 
     ghost laws = { Prim.search (comparing, rules) };
 
-    fn eq(&self, other: &CandidateSet) -> bool {
+    fn eq(&self, other: &CandidateSet) -> bool
+        ensures value { result ≡ on members (pointwise nat_eq) self.now other.now }
+        ensures list { Decides result (members self.now ≡ members other.now) }
+        ensures same { Decides result (self.now ≡ other.now) }
+    {
         let [a, b, c, d] = self.words;
         let [p, q, r, s] = other.words;
         (a == p) & (b == q) & (c == r) & (d == s)

@@ -1,4 +1,6 @@
 // Evidence on meters and flats, and the sheet that it makes.
+#![tactic(auto)]
+
 pub mod fault;
 pub mod records;
 pub mod sheet;

@@ -1,3 +1,5 @@
 // Worked block lists: damaged ones, and the longest.
+#![tactic(auto)]
+
 #[cfg(test)]
 mod tests;

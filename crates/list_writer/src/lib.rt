@@ -1,4 +1,6 @@
 // Writing the block list of a sheet into a lent buffer, and reading back what was written.
+#![tactic(auto)]
+
 pub mod copies;
 pub mod faults;
 mod records;

@@ -1,4 +1,6 @@
 // The pairing of a small house, from its records.
+#![tactic(auto)]
+
 use evidence::records::{Candidate, Flat, Meter};
 use evidence::sheet::EvidenceSheet;
 use reports::report::Report;

@@ -1,4 +1,6 @@
 // Reads a table from standard input, and prints its pairing, or why there is none.
+#![tactic(auto)]
+
 use reports::pairing::paired;
 use std::io;
 use std::io::Read;

@@ -1,4 +1,6 @@
 // Reads a block list from standard input, and prints its pairing, or why there is none.
+#![tactic(auto)]
+
 use list_reports::pairing::pair;
 use std::io;
 use std::io::Read;

@@ -1,4 +1,6 @@
 // Rules: numbers that bound what any clique can still gain.
+#![tactic(auto)]
+
 pub mod colour;
 pub mod flat;
 mod greatest;

@@ -1,4 +1,6 @@
 // Tries the rules and the search on many made sheets against every clique, and prints how often each promise held.
+#![tactic(auto)]
+
 mod gains;
 mod made;
 mod random;

@@ -3,8 +3,8 @@ use Rattle.std.proofs.lemmas.Bool.Decides.{nat_tests}
 use Rattle.blocks.proofs.Sums.{all_zero-more, all_zero-all}
 use Rattle.blocks.proofs.checks.zero_from.Goals as goal
 
-pub returns-then-byte-at-ne0 : goal.returns-then-byte-at-ne0
-returns-then-byte-at-ne0 c =
+pub returns-then-byte_at-ne0 : goal.returns-then-byte_at-ne0
+returns-then-byte_at-ne0 c =
     let step = all_zero-more 508 c.loop-i.i c.args.block.now (omega arith) in
     let same = c.loop-i.invariant in
     grind (arith, nat_tests)

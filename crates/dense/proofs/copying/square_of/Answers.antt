@@ -3,8 +3,8 @@ use Rattle.std.proofs.lemmas.List.{length-set}
 use Rattle.dense.proofs.Filled.{filled}
 use Rattle.dense.proofs.copying.square_of.Goals as goal
 
-pub overflow-cast-points : goal.overflow-cast-points
-overflow-cast-points g c = omega (arith, c.points.ensures, (g.S.Sheet.lawful c.args.sheet.now).highest (c.loop-k.k / 256) (c.loop-k.k % 256))
+pub overflow_cast-points : goal.overflow_cast-points
+overflow_cast-points g c = omega (arith, c.points.ensures, (g.S.Sheet.lawful c.args.sheet.now).highest (c.loop-k.k / 256) (c.loop-k.k % 256))
 
 pub loop-k-preserved : goal.loop-k-preserved
 loop-k-preserved g c =

@@ -17,12 +17,12 @@ returns g c =
     let new = c.new-search.result in
     let owned = c.new-search.ensures.owned in
     let calls = replicate c.args.grants (Grant 1000000) in
-    let s = summary_of c.after-grants-found.result in
-    let t = state_of c.after-grants-found.new.search in
+    let s = summary_of c.after_grants-found.result in
+    let t = state_of c.after_grants-found.new.search in
     let leads : Leads m number (start m) calls s t =
     subst (λ u. Leads m number u calls s t) c.new-search.ensures.state
     (subst (λ rule. Leads m (g.R.Rule.value rule) (state_of new) calls s t) owned.1
-    (subst (λ sheet. Leads (g.S.Sheet.meaning sheet) (g.R.Rule.value new.rule) (state_of new) calls s t) owned.0 c.after-grants-found.ensures)) in
+    (subst (λ sheet. Leads (g.S.Sheet.meaning sheet) (g.R.Rule.value new.rule) (state_of new) calls s t) owned.0 c.after_grants-found.ensures)) in
     record {
       found = searched m law number promise c.args.grants _ ((λ i. noted (c.holding-found.ensures i) (Ceiling (c.ceiling.ensures i))) ∙ asked-all m number 1000000 c.args.grants 256 s t leads);
       promise = promise;

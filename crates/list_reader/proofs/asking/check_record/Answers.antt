@@ -7,13 +7,13 @@ pub returns-then-key : goal.returns-then-key
 unfolding record_questions
 returns-then-key c = grind (arith, nat_tests)
 
-pub returns-then-key-key-at : goal.returns-then-key-key-at
+pub returns-then-key-key_at : goal.returns-then-key-key_at
 unfolding record_questions
-returns-then-key-key-at c = grind (arith, nat_tests)
+returns-then-key-key_at c = grind (arith, nat_tests)
 
-pub returns-then-points-at-ge65535 : goal.returns-then-points-at-ge65535
+pub returns-then-points_at-ge65535 : goal.returns-then-points_at-ge65535
 unfolding record_questions
-returns-then-points-at-ge65535 c = grind (arith, nat_tests)
+returns-then-points_at-ge65535 c = grind (arith, nat_tests)
 
 pub returns : goal.returns
 unfolding record_questions

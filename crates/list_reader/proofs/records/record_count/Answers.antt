@@ -5,5 +5,5 @@ use Rattle.list_reader.proofs.records.record_count.Goals as goal
 pub returns : goal.returns
 unfolding record_count
 returns c =
-    let place = ap (λ full. get_or c.args.bytes.now (512 * full + 2) 0) c.saturating-sub-full.ensures in
+    let place = ap (λ full. get_or c.args.bytes.now (512 * full + 2) 0) c.saturating_sub-full.ensures in
     record { value = omega (arith, place); bound = omega arith }

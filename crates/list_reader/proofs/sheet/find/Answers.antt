@@ -9,24 +9,24 @@ unfolding found
 loop-low-init c =
     let bytes = c.args.bytes.now in
     let whole : record_count bytes - 0 ≡ record_count bytes = omega arith in
-    (ap (λ n. halving (record_at bytes) c.args.key (n - 0) 0 n) c.record-count-high.ensures.value ∙ ap (λ n. halving (record_at bytes) c.args.key n 0 (record_count bytes)) whole, c.record-count-high.ensures.bound)
+    (ap (λ n. halving (record_at bytes) c.args.key (n - 0) 0 n) c.record_count-high.ensures.value ∙ ap (λ n. halving (record_at bytes) c.args.key n 0 (record_count bytes)) whole, c.record_count-high.ensures.bound)
 
 pub returns-then-here-key : goal.returns-then-here-key
 returns-then-here-key c =
     let bytes = c.args.bytes.now in
-    let same = sym c.key-at-here.ensures.value ∙ c.if-here-key.true in
-    ap Some c.points-at.ensures ∙ (sym (halving-here (record_at bytes) c.args.key c.loop-low.low c.loop-low.high c.loop-low-test.true same) ∙ c.loop-low.invariant.0)
+    let same = sym c.key_at-here.ensures.value ∙ c.if-here-key.true in
+    ap Some c.points_at.ensures ∙ (sym (halving-here (record_at bytes) c.args.key c.loop-low.low c.loop-low.high c.loop-low-test.true same) ∙ c.loop-low.invariant.0)
 
 pub loop-low-preserved-then-here-key-2 : goal.loop-low-preserved-then-here-key-2
 loop-low-preserved-then-here-key-2 c =
     let bytes = c.args.bytes.now in
-    let less : (record_at bytes (middle_of c.loop-low.low c.loop-low.high)).key < c.args.key = omega (arith, c.key-at-here.ensures.value) in
+    let less : (record_at bytes (middle_of c.loop-low.low c.loop-low.high)).key < c.args.key = omega (arith, c.key_at-here.ensures.value) in
     (sym (halving-above (record_at bytes) c.args.key c.loop-low.low c.loop-low.high c.loop-low-test.true less) ∙ c.loop-low.invariant.0, c.loop-low.invariant.1)
 
 pub loop-low-preserved : goal.loop-low-preserved
 loop-low-preserved c =
     let bytes = c.args.bytes.now in
-    let more : c.args.key < (record_at bytes (middle_of c.loop-low.low c.loop-low.high)).key = omega (arith, c.key-at-here.ensures.value) in
+    let more : c.args.key < (record_at bytes (middle_of c.loop-low.low c.loop-low.high)).key = omega (arith, c.key_at-here.ensures.value) in
     (sym (halving-below (record_at bytes) c.args.key c.loop-low.low c.loop-low.high c.loop-low-test.true more) ∙ c.loop-low.invariant.0, omega arith)
 
 pub returns : goal.returns

@@ -13,7 +13,7 @@ returns-then-bytes-gt65536 c = grind (arith, nat_tests)
 
 pub returns-in-err-sheet : goal.returns-in-err-sheet
 returns-in-err-sheet c =
-    let p = err_from_is_err_and c.from-residual.result c.from-residual.ensures.1 in
+    let p = err_from_is_err_and c.from_residual.result c.from_residual.ensures.1 in
     rw (p.1, p.2) (program-asked c.args.bytes.now c.if-bytes-gt65536.false ∙ ap (raised Listed) c.in-err-sheet.ensures)
 
 pub returns : goal.returns

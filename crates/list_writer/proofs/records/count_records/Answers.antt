@@ -7,7 +7,7 @@ pub loop-key-preserved : goal.loop-key-preserved
 loop-key-preserved g c =
     let m = g.S.Sheet.meaning c.args.sheet.now in
     let inside : c.loop-key.key < 256 * m.size = omega arith in
-    elim c.if-has-record.branch [ then-has-record w ↦ omega (arith, w.count-is, ap length (records_from-yes m c.loop-key.key inside (sym c.has-record.ensures ∙ w.if-has-record.true))) | else-has-record w ↦ omega (arith, w.count-is, ap length (records_from-no m c.loop-key.key inside (sym c.has-record.ensures ∙ w.if-has-record.false))) ]
+    elim c.if-has_record.branch [ then-has-record w ↦ omega (arith, w.count-is, ap length (records_from-yes m c.loop-key.key inside (sym c.has_record.ensures ∙ w.if-has_record.true))) | else-has-record w ↦ omega (arith, w.count-is, ap length (records_from-no m c.loop-key.key inside (sym c.has_record.ensures ∙ w.if-has_record.false))) ]
 
 pub returns : goal.returns
 returns g c =

@@ -17,8 +17,8 @@ loop-key-smaller g c =
     let inside = some-inside m c.loop-key.key (omega (arith, ap length same)) in
     omega arith
 
-pub overflow-add-key : goal.overflow-add-key
-overflow-add-key g c =
+pub overflow_add-key : goal.overflow_add-key
+overflow_add-key g c =
     let m = g.S.Sheet.meaning c.args.sheet.now in
     let same : records_from m c.args.from ≡ records_from m c.loop-key.key = c.loop-key.invariant in
     let inside = some-inside m c.loop-key.key (omega (arith, ap length same)) in

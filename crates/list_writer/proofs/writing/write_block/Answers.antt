@@ -12,6 +12,6 @@ returns g c =
     let few : c.args.count ≤ length rs = omega arith in
     let long = length-content (m.size - 1) c.args.place (take c.args.count rs) (omega (arith, length-take-le c.args.count rs few)) in
     record {
-      bytes = seal-put (content (m.size - 1) c.args.place (take c.args.count rs)) c.args.bytes.now c.write-content-next.new.bytes c.put.new.bytes (512 * c.args.place) c.check-of-check.result long (omega arith) c.write-content-next.ensures.bytes c.check-of-check.ensures c.put.ensures;
-      rest = c.write-content-next.ensures.rest;
+      bytes = seal-put (content (m.size - 1) c.args.place (take c.args.count rs)) c.args.bytes.now c.write_content-next.new.bytes c.put.new.bytes (512 * c.args.place) c.check_of-check.result long (omega arith) c.write_content-next.ensures.bytes c.check_of-check.ensures c.put.ensures;
+      rest = c.write_content-next.ensures.rest;
     }

@@ -21,8 +21,8 @@ returns-then-buffer-blocks g c =
 pub loop-place-init : goal.loop-place-init
 loop-place-init g c = (replaced-none 0 c.args.buffer.now, refl)
 
-pub write-block-key-requires : goal.write-block-key-requires
-write-block-key-requires g c =
+pub write_block-key-requires : goal.write_block-key-requires
+write_block-key-requires g c =
     let m = g.S.Sheet.meaning c.args.sheet.now in
     omega (arith, ap length c.loop-place.invariant.1, length-drop (126 * c.loop-place.place) (records m))
 
@@ -32,7 +32,7 @@ loop-place-preserved g c =
     let place = c.loop-place.place in
     let left = records_from m c.loop-place.key in
     let count : c.min.result ≡ min (length (records m) - 126 * place) 126 = omega arith in
-    (block-put (m.size - 1) (records m) place c.min.result left c.loop-place.invariant.1 count c.args.buffer.now c.loop-place.buffer c.write-block-key.new.bytes c.loop-place.invariant.0 c.write-block-key.ensures.bytes, c.write-block-key.ensures.rest ∙ block-rest (m.size - 1) (records m) place c.min.result left c.loop-place.invariant.1 count)
+    (block-put (m.size - 1) (records m) place c.min.result left c.loop-place.invariant.1 count c.args.buffer.now c.loop-place.buffer c.write_block-key.new.bytes c.loop-place.invariant.0 c.write_block-key.ensures.bytes, c.write_block-key.ensures.rest ∙ block-rest (m.size - 1) (records m) place c.min.result left c.loop-place.invariant.1 count)
 
 pub returns : goal.returns
 returns g c =

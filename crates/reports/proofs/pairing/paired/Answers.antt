@@ -10,8 +10,8 @@ returns c =
     let size = c.in-ok-table.table.size in
     record {
       size = size;
-      entries = c.as-slice.result.now;
-      holds = subst (λ (es : List ℕ). read text ≡ Ok (size ∷ es)) (sym c.as-slice.ensures.value) c.in-ok-table.ensures.value;
+      entries = c.as_slice.result.now;
+      holds = subst (λ (es : List ℕ). read text ≡ Ok (size ∷ es)) (sym c.as_slice.ensures.value) c.in-ok-table.ensures.value;
       accepted = c.in-ok-sheet.ensures.0;
       reports = subst (λ (m : Meaning). Reports m c.in-ok-report.report) c.in-ok-sheet.ensures.1 c.in-ok-report.ensures;
     }

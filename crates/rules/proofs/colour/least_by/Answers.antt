@@ -17,8 +17,8 @@ loop-v-init c =
     let split = cons-from-removed v (members set) (members-from set) (sym c.in-ok-least.was ∙ c.lowest.ensures) in
     (members-below set v (subst (λ l. is_in v l ≡ true) (sym split) (in-first v (removed v (members set)))), refl)
 
-pub offset-bounds-sigma-v : goal.offset-bounds-sigma-v
-offset-bounds-sigma-v c = omega (arith, next-below _ _ _ c.in-Some.ensures.steps)
+pub offset_bounds-sigma-v : goal.offset_bounds-sigma-v
+offset_bounds-sigma-v c = omega (arith, next-below _ _ _ c.in-Some.ensures.steps)
 
 pub bounds-sigma-v : goal.bounds-sigma-v
 bounds-sigma-v c = next-below _ _ _ c.in-Some.ensures.steps

@@ -13,8 +13,8 @@ use Rattle.rules.proofs.Arrays.{at_set}
 use Rattle.candidates.proofs.Walk.{next-below, next-once}
 use Rattle.rules.proofs.colour.raise.Goals as goal
 
-pub offset-bounds-sigma-v : goal.offset-bounds-sigma-v
-offset-bounds-sigma-v g c = omega (arith, next-below _ _ _ c.in-Some.ensures.steps)
+pub offset_bounds-sigma-v : goal.offset_bounds-sigma-v
+offset_bounds-sigma-v g c = omega (arith, next-below _ _ _ c.in-Some.ensures.steps)
 
 pub bounds-sigma-v : goal.bounds-sigma-v
 bounds-sigma-v g c = next-below _ _ _ c.in-Some.ensures.steps
@@ -22,8 +22,8 @@ bounds-sigma-v g c = next-below _ _ _ c.in-Some.ensures.steps
 pub bounds-sigma-v-in-loop-v : goal.bounds-sigma-v-in-loop-v
 bounds-sigma-v-in-loop-v g c = next-below _ _ _ c.in-Some.ensures.steps
 
-pub overflow-add-sigma : goal.overflow-add-sigma
-overflow-add-sigma g c =
+pub overflow_add-sigma : goal.overflow_add-sigma
+overflow_add-sigma g c =
     let m = g.S.Sheet.meaning c.args.sheet.now in
     let K = members c.args.class in
     let σ = at c.loop-v.sigma in
@@ -34,7 +34,7 @@ overflow-add-sigma g c =
       c.loop-v.invariant v,
       ap (λ l. raised m K l σ v) c.in-Some.ensures.steps,
       cond-true (is_in v (v ∷ rest)) (σ v + rise m K v) (σ v) (in-first v rest),
-      raised-le m (g.S.Sheet.lawful c.args.sheet.now) K (remaining c.into-iter-v-iterator.result) (at c.args.sigma.now) 33553408 c.requires v,
+      raised-le m (g.S.Sheet.lawful c.args.sheet.now) K (remaining c.into_iter-v-iterator.result) (at c.args.sigma.now) 33553408 c.requires v,
     )
 
 -- v is raised

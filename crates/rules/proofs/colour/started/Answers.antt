@@ -14,10 +14,10 @@ use Rattle.rules.proofs.colour.started.Goals as goal
 pub loop-v-init : goal.loop-v-init
 loop-v-init g c =
     let f = rho (g.S.Sheet.meaning c.args.sheet.now) (members c.args.c) in
-    (refl, λ k. ap (λ σ. cond (is_in k (remaining c.into-iter-v-iterator.result)) (f k) (σ k)) (at-zeros 256))
+    (refl, λ k. ap (λ σ. cond (is_in k (remaining c.into_iter-v-iterator.result)) (f k) (σ k)) (at-zeros 256))
 
-pub offset-bounds-sigma-v : goal.offset-bounds-sigma-v
-offset-bounds-sigma-v g c = omega (arith, next-below _ _ _ c.in-Some.ensures.steps)
+pub offset_bounds-sigma-v : goal.offset_bounds-sigma-v
+offset_bounds-sigma-v g c = omega (arith, next-below _ _ _ c.in-Some.ensures.steps)
 
 pub bounds-sigma-v : goal.bounds-sigma-v
 bounds-sigma-v g c = next-below _ _ _ c.in-Some.ensures.steps

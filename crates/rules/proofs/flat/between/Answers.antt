@@ -7,12 +7,12 @@ use Rattle.sheets.proofs.Weights.{rho-limit}
 use Rattle.rules.specs.FlatBounds.{total-limit}
 use Rattle.rules.proofs.flat.between.Goals as goal
 
-pub overflow-add-sum : goal.overflow-add-sum
-overflow-add-sum g c =
+pub overflow_add-sum : goal.overflow_add-sum
+overflow_add-sum g c =
     let m = g.S.Sheet.meaning c.args.sheet.now in
     let law = g.S.Sheet.lawful c.args.sheet.now in
     let f = rho m (members c.args.c) in
-    let begun = ap remaining c.into-iter-v-iterator.ensures.into-iter-gives ∙ c.iter-v-items.ensures in
+    let begun = ap remaining c.into_iter-v-iterator.ensures.into_iter-gives ∙ c.iter-v-items.ensures in
     omega (
       arith,
       c.loop-v.invariant,

@@ -17,11 +17,11 @@ pub loop-v-init : goal.loop-v-init
 loop-v-init g c =
     let m = g.S.Sheet.meaning c.args.sheet.now in
     let C = members c.args.c in
-    let S = remaining c.into-iter-v-iterator.result in
+    let S = remaining c.into_iter-v-iterator.result in
     (refl, ap (λ l. l ++ S) c.empty-lower.ensures.list, longest-none m C S (members c.empty-lower.result) 256 c.empty-lower.ensures.list)
 
-pub offset-bounds-lengths-v : goal.offset-bounds-lengths-v
-offset-bounds-lengths-v g c = omega (arith, next-below _ _ _ c.in-Some.ensures.steps)
+pub offset_bounds-lengths-v : goal.offset_bounds-lengths-v
+offset_bounds-lengths-v g c = omega (arith, next-below _ _ _ c.in-Some.ensures.steps)
 
 pub bounds-lengths-v : goal.bounds-lengths-v
 bounds-lengths-v g c = next-below _ _ _ c.in-Some.ensures.steps
@@ -30,7 +30,7 @@ bounds-lengths-v g c = next-below _ _ _ c.in-Some.ensures.steps
 left : (g : given.Over) (c : After-max-most g) → remaining c.loop-v.v-iterator ≡ c.in-Some.v ∷ remaining c.next.new.self
 left g c = c.in-Some.ensures.steps
 
-split : (g : given.Over) (c : After-max-most g) → members c.loop-v.lower ++ c.in-Some.v ∷ remaining c.next.new.self ≡ remaining c.into-iter-v-iterator.result
+split : (g : given.Over) (c : After-max-most g) → members c.loop-v.lower ++ c.in-Some.v ∷ remaining c.next.new.self ≡ remaining c.into_iter-v-iterator.result
 split g c = ap (λ l. members c.loop-v.lower ++ l) (sym (left g c)) ∙ c.loop-v.invariant.1
 
 -- v stands behind the lower ones
@@ -38,7 +38,7 @@ pushed : (g : given.Over) (c : After-max-most g) → members c.with-lower.result
 pushed g c =
     let v = c.in-Some.v in
     let lower = members c.loop-v.lower in
-    let begun = ap remaining c.into-iter-v-iterator.ensures.into-iter-gives ∙ c.iter-v-items.ensures in
+    let begun = ap remaining c.into_iter-v-iterator.ensures.into_iter-gives ∙ c.iter-v-items.ensures in
     let up = subst Ascending (sym (split g c ∙ begun)) (members-from c.args.s) in
     c.with-lower.ensures.list
     ∙ cond-true (ltb v 256) (inserted v lower) lower (lt-ltb v 256 (next-below _ _ _ (left g c)))
@@ -49,7 +49,7 @@ loop-v-preserved g c =
     let m = g.S.Sheet.meaning c.args.sheet.now in
     let C = members c.args.c in
     let v = c.in-Some.v in
-    let x = c.length-of-length.result in
+    let x = c.length_of-length.result in
     let lower = members c.loop-v.lower in
     let lengths = c.loop-v.lengths in
     let higher = remaining c.next.new.self in
@@ -59,7 +59,7 @@ loop-v-preserved g c =
       length-set lengths v x ∙ whole,
       ap (λ l. l ++ higher) (pushed g c) ∙ append_assoc lower (v ∷ []) higher ∙ split g c,
       (λ i. max (more i) (longest m C (pushed g c i) (sym (noted-at lengths v x below) i) higher))
-          ∙ longest-more m C lower (at lengths) v higher c.loop-v.most x c.length-of-length.ensures
+          ∙ longest-more m C lower (at lengths) v higher c.loop-v.most x c.length_of-length.ensures
           ∙ ap (λ l. max c.loop-v.most (longest m C lower (at lengths) l)) (sym (left g c))
           ∙ c.loop-v.invariant.2,
     )

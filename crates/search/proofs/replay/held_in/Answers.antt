@@ -12,7 +12,7 @@ pub returns : goal.returns
 returns g c =
     let copy = c.in-ok-copy.copy in
     let last = c.held-held.new.buffer in
-    let same = c.deref-mut.ensures.value ∙ each_same (vec_items c.args.buffer.now) (vec_items copy) c.in-ok-copy.ensures.cases.0 in
-    ap (held_answer c.held-held.result) (take_at last (drop (length last) copy.items) copy.len (c.held-held.auto.buffer ∙ c.deref-mut.ensures.len))
+    let same = c.deref_mut.ensures.value ∙ each_same (vec_items c.args.buffer.now) (vec_items copy) c.in-ok-copy.ensures.cases.0 in
+    ap (held_answer c.held-held.result) (take_at last (drop (length last) copy.items) copy.len (c.held-held.auto.buffer ∙ c.deref_mut.ensures.len))
     ∙ c.held-held.ensures
     ∙ ap (written (state_of c.args.search.now).held) same

@@ -28,7 +28,7 @@ returns-then-v-size g c =
     let fails : is_clique m (v ∷ K) ≡ false =
     elim c.then-v-size.branch [
       | then-v-size-via-then-v-size w ↦ let out : m.size ≤ v = omega (arith, w.if-v-size.true) in and_left (ltb v m.size) (fits_all m v K && is_clique m K) (le-ltb v m.size out)
-      | then-v-size-via-else-v-size+then-not-fits-all w ↦ and_right (ltb v m.size) (fits_all m v K && is_clique m K) (and_left (fits_all m v K) (is_clique m K) (sym w.if-not-fits-all.ensures))
+      | then-v-size-via-else-v-size+then-not-fits-all w ↦ and_right (ltb v m.size) (fits_all m v K && is_clique m K) (and_left (fits_all m v K) (is_clique m K) (sym w.if-not-fits_all.ensures))
     ] in
     let is = sym fails ∙ ap (is_clique m) (sym (taken g (goal.at.returns-then-v-size g c).After-without-rest)) ∙ c.loop-v.invariant in
     record { value = judged m law c.args.set false is; small = small-cliques m law }
@@ -42,7 +42,7 @@ loop-v-preserved g c =
     let v = c.in-Some.v in
     let K = members c.without-rest.result in
     let here : ltb v m.size ≡ true = lt-ltb v m.size (omega arith) in
-    let fits : fits_all m v K ≡ true = sym c.if-not-fits-all.ensures in
+    let fits : fits_all m v K ≡ true = sym c.if-not-fits_all.ensures in
     sym (λ i. here i && (fits i && is_clique m K)) ∙ ap (is_clique m) (sym (taken g (goal.at.loop-v-preserved g c).After-without-rest)) ∙ c.loop-v.invariant
 
 pub returns : goal.returns

@@ -6,12 +6,12 @@ use Rattle.sheets.specs.Weights.{rho}
 use Rattle.sheets.proofs.Weights.{rho-limit}
 use Rattle.sheets.proofs.sums.rho.Goals as goal
 
-pub overflow-add-sum : goal.overflow-add-sum
-overflow-add-sum g c =
+pub overflow_add-sum : goal.overflow_add-sum
+overflow_add-sum g c =
     let m = g.S.Sheet.meaning c.args.sheet.now in
     let set = c.args.set in
     let v = c.args.v in
-    let begun = ap remaining c.into-iter-u-iterator.ensures.into-iter-gives ∙ c.iter-u-items.ensures in
+    let begun = ap remaining c.into_iter-u-iterator.ensures.into_iter-gives ∙ c.iter-u-items.ensures in
     omega (
       arith,
       c.loop-u.invariant,

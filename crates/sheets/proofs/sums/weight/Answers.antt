@@ -15,8 +15,8 @@ taken g c = members-lowest c.loop-v.rest c.without-rest.result c.in-Some.v c.in-
 most : (g : given.Over) (c : After-rho-sum g) → weight (g.S.Sheet.meaning c.args.sheet.now) (members c.args.set) ≤ 2139029760
 most g c = weight-limit (g.S.Sheet.meaning c.args.sheet.now) (g.S.Sheet.lawful c.args.sheet.now) (members c.args.set) (length-members c.args.set)
 
-pub overflow-add-sum : goal.overflow-add-sum
-overflow-add-sum g c = omega (arith, c.loop-v.invariant, ap (weight (g.S.Sheet.meaning c.args.sheet.now)) (taken g c), most g c)
+pub overflow_add-sum : goal.overflow_add-sum
+overflow_add-sum g c = omega (arith, c.loop-v.invariant, ap (weight (g.S.Sheet.meaning c.args.sheet.now)) (taken g c), most g c)
 
 pub loop-v-smaller : goal.loop-v-smaller
 loop-v-smaller g c = omega (arith, ap length (taken g c))

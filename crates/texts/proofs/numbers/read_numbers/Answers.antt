@@ -8,7 +8,7 @@ loop-place-preserved c = sofar-more _ _ _ _ c.loop-place.invariant _ _ c.loop-pl
 
 pub returns-in-err-begun : goal.returns-in-err-begun
 returns-in-err-begun c =
-    let p = err_from_is_err_and c.from-residual.result c.from-residual.ensures.1 in
+    let p = err_from_is_err_and c.from_residual.result c.from_residual.ensures.1 in
     rw (p.1, p.2) (sofar-stops _ _ _ _ c.loop-place.invariant _ c.loop-place-test.true c.in-err-begun.ensures)
 
 pub returns : goal.returns

@@ -5,8 +5,8 @@ use Rattle.texts.proofs.tables.read_table.Goals as goal
 pub returns-in-err-entries : goal.returns-in-err-entries
 returns-in-err-entries c = promised _ _ (search rules)
 
-pub returns-then-is-empty : goal.returns-then-is-empty
-returns-then-is-empty c = promised _ _ (search rules)
+pub returns-then-is_empty : goal.returns-then-is_empty
+returns-then-is_empty c = promised _ _ (search rules)
 
 pub returns : goal.returns
 returns c = promised _ _ (search rules)

@@ -1,5 +1,5 @@
-use Rattle.std.proofs.Common.{◌≡◌, ◌/◌, ◌%◌, ◌^◌, eqb, sym, ap, ◌∙◌}
-use lib.Bits.{bit_and, and_mask}
+use Rattle.std.proofs.Common.{◌/◌, ◌%◌, ◌^◌, eqb, sym, ap, ◌∙◌}
+use lib.Bits.{and_mask}
 use Rattle.std.proofs.lemmas.Bool.{le-ltb}
 use Rattle.candidates.specs.Members.{bit}
 use Rattle.candidates.proofs.Marks.{word, has-inside, has-outside}

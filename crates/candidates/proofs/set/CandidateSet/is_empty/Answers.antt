@@ -1,5 +1,4 @@
-use Rattle.std.proofs.Common.{◌≡◌, ◌^◌, ◌<◌, eqb, ap, arith}
-use lib.Bits.{bit_or, or_add_and, and_le_l, and_le_r}
+use Rattle.std.proofs.Common.{◌≡◌, ◌^◌, ◌<◌, arith}
 use Rattle.std.proofs.lemmas.Bool.{eqb-true, eq-eqb}
 use Rattle.candidates.proofs.Marks.{word, each-four, nothing-from-words, words-from-nothing, or_nothing}
 use Rattle.candidates.proofs.set.CandidateSet.is_empty.Goals as goal

@@ -1,6 +1,6 @@
-use Rattle.std.proofs.Common.{◌^◌, ◌<◌, sym, ap, arith}
+use Rattle.std.proofs.Common.{sym, ap, arith}
 use Rattle.candidates.specs.Sets.{least}
-use Rattle.candidates.proofs.Marks.{word, lowest-in-word, none-in-word, nothing-from-marks}
+use Rattle.candidates.proofs.Marks.{lowest-in-word, none-in-word, nothing-from-marks}
 use Rattle.candidates.proofs.set.CandidateSet.lowest.Goals as goal
 
 pub returns-then-word-ne0 : goal.returns-then-word-ne0

@@ -1,4 +1,4 @@
-use Rattle.std.proofs.Common.{◌≡◌, ℕ, ◌-◌, ◌^◌, ◌<◌, not, ◌&&◌, sym, refl, ap, ◌∙◌, arith}
+use Rattle.std.proofs.Common.{◌-◌, ◌^◌, ◌<◌, not, ◌&&◌, sym, refl, ap, ◌∙◌, arith}
 use lib.Bits.{bit_and}
 use Rattle.candidates.specs.Members.{bit, has, members}
 use Rattle.candidates.specs.Sets.{is_in}

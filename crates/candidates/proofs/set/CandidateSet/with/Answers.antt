@@ -1,10 +1,10 @@
-use Rattle.std.proofs.Common.{◌≡◌, ◌/◌, ◌%◌, ◌^◌, length, sym, ap, ◌∙◌, arith}
+use Rattle.std.proofs.Common.{◌/◌, ◌%◌, sym, ap, ◌∙◌, arith}
 use lib.Bits.{bit_or}
 use Rattle.std.proofs.lemmas.Nat.{one_shl}
 use Rattle.std.proofs.lemmas.Bool.{lt-ltb, cond-true, cond-false, le-ltb}
 use Rattle.candidates.specs.Members.{members}
 use Rattle.candidates.specs.Sets.{inserted}
-use Rattle.candidates.proofs.Marks.{word, changed, has-added, has_same, members-added}
+use Rattle.candidates.proofs.Marks.{word, has-added, has_same, members-added}
 use Rattle.candidates.proofs.set.CandidateSet.with.Goals as goal
 
 pub returns-then-v-lt256 : goal.returns-then-v-lt256

@@ -22,10 +22,10 @@ frames-start g c =
     ap (map shown) c.of.ensures
     ∙ ap (λ f. f ∷ []) (start-frame m (g.S.Sheet.lawful c.args.sheet.now) c.size.result c.size.ensures _ _ _ c.empty-clique.ensures.list c.first-rest.ensures.list c.weight-mark.ensures.value)
 
-pub invariant-of-result : goal.invariant-of-result
-invariant-of-result g c =
+pub invariant_of-result : goal.invariant_of-result
+invariant_of-result g c =
     let m = g.S.Sheet.meaning c.args.sheet.now in
-    (omega (arith, ap reach (frames-start g (goal.at.invariant-of-result g c).After-of), length-counting 0 m.size, (g.S.Sheet.lawful c.args.sheet.now).most), tt)
+    (omega (arith, ap reach (frames-start g (goal.at.invariant_of-result g c).After-of), length-counting 0 m.size, (g.S.Sheet.lawful c.args.sheet.now).most), tt)
 
 pub returns : goal.returns
 returns g c = ap (state _) (frames-start g (goal.at.returns g c).After-of)

@@ -5,19 +5,19 @@ use Rattle.frames.proofs.core.node.node.Goals as goal
 
 pub push-requires : goal.push-requires
 push-requires g c =
-    let b = c.branch-top-above in
+    let b = c.branch_top-above in
     let core = c.args.core.now in
-    (lit< tt, room-above core.stack b.new.stack b.new.stack c.in-Some.top b.result c.in-Some-lowest.v c.in-Some-open-bound.bound c.fitting.result c.in-Some.ensures c.in-Some-lowest.ensures b.ensures.left b.ensures.above core.room)
+    (lit< tt, room-above core.stack b.new.stack b.new.stack c.in-Some.top b.result c.in-Some-lowest.v c.in-Some-open_bound.bound c.fitting.result c.in-Some.ensures c.in-Some-lowest.ensures b.ensures.left b.ensures.above core.room)
 
-pub invariant-of-core-2 : goal.invariant-of-core-2
-invariant-of-core-2 g c =
-    let b = c.branch-top-above in
+pub invariant_of-core-2 : goal.invariant_of-core-2
+invariant_of-core-2 g c =
+    let b = c.branch_top-above in
     let core = c.args.core.now in
-    (reach-after core.stack b.new.stack c.push.new.self c.in-Some.top b.result c.in-Some-lowest.v c.in-Some-open-bound.bound c.fitting.result c.in-Some.ensures c.in-Some-lowest.ensures b.ensures.left b.ensures.above c.push.ensures core.room, tt)
+    (reach-after core.stack b.new.stack c.push.new.self c.in-Some.top b.result c.in-Some-lowest.v c.in-Some-open_bound.bound c.fitting.result c.in-Some.ensures c.in-Some-lowest.ensures b.ensures.left b.ensures.above c.push.ensures core.room, tt)
 
 pub returns : goal.returns
 returns g c =
-    let b = c.branch-top-above in
+    let b = c.branch_top-above in
     let core = c.args.core.now in
-    node-after core.stack b.new.stack c.push.new.self c.in-Some.top b.result c.in-Some-lowest.v c.in-Some-open-bound.bound c.fitting.result c.in-Some.ensures c.in-Some-lowest.ensures b.ensures.left b.ensures.above c.push.ensures
-    (g.S.Sheet.meaning c.args.sheet.now) (g.R.Rule.value c.args.rule.now) (view core).held c.fitting.ensures c.in-Some-open-bound.ensures
+    node-after core.stack b.new.stack c.push.new.self c.in-Some.top b.result c.in-Some-lowest.v c.in-Some-open_bound.bound c.fitting.result c.in-Some.ensures c.in-Some-lowest.ensures b.ensures.left b.ensures.above c.push.ensures
+    (g.S.Sheet.meaning c.args.sheet.now) (g.R.Rule.value c.args.rule.now) (view core).held c.fitting.ensures c.in-Some-open_bound.ensures

@@ -19,8 +19,8 @@ over-same limit number x = at (leb number limit)
     at true e = absurd (false≢true (ap is_some (sym e)))
     at false e = cc
 
-pub overflow-add-result : goal.overflow-add-result
-overflow-add-result g c =
+pub overflow_add-result : goal.overflow_add-result
+overflow_add-result g c =
     let m = g.S.Sheet.meaning c.args.sheet.now in
     let number = g.R.Rule.value c.args.rule.now in
     let C = inside m (members c.args.top.clique) in
@@ -28,8 +28,8 @@ overflow-add-result g c =
     let is : c.in-ok-number.number ≡ number m C S = over-same (c.in-Some.held - c.weight-weight.result) (number m C S) c.in-ok-number.number c.in-ok-number.ensures in
     omega (arith, c.weight-weight.ensures.bound, number-limit m (g.S.Sheet.lawful c.args.sheet.now) number (g.R.Rule.bounds c.args.rule.now) c.args.top.clique c.args.top.rest)
 
-pub overflow-add-result-2 : goal.overflow-add-result-2
-overflow-add-result-2 g c =
+pub overflow_add-result-2 : goal.overflow_add-result-2
+overflow_add-result-2 g c =
     let m = g.S.Sheet.meaning c.args.sheet.now in
     let number = g.R.Rule.value c.args.rule.now in
     omega (arith, c.number.ensures, c.weight-weight.ensures.bound, number-limit m (g.S.Sheet.lawful c.args.sheet.now) number (g.R.Rule.bounds c.args.rule.now) c.args.top.clique c.args.top.rest)

@@ -5,11 +5,11 @@ use Rattle.search.specs.Searching.{state_of}
 use Rattle.search.proofs.Advance.{advanced-more, advanced-finished}
 use Rattle.search.proofs.search.Search.advance.Goals as goal
 
-pub returns-then-is-finished : goal.returns-then-is-finished
-returns-then-is-finished g c =
+pub returns-then-is_finished : goal.returns-then-is_finished
+returns-then-is_finished g c =
     let self = c.args.self.now in
     let inv = c.loop-done.invariant in
-    let all = advanced-finished (g.S.Sheet.meaning self.sheet) (g.R.Rule.value self.rule) c.args.k (state_of self) c.loop-done.done (state_of c.loop-done.self) (sym c.if-is-finished.ensures) inv.0 in
+    let all = advanced-finished (g.S.Sheet.meaning self.sheet) (g.R.Rule.value self.rule) c.args.k (state_of self) c.loop-done.done (state_of c.loop-done.self) (sym c.if-is_finished.ensures) inv.0 in
     record { nodes = all.0; after = all.1; same = (inv.1, inv.2) }
 
 pub loop-done-preserved : goal.loop-done-preserved
@@ -18,4 +18,4 @@ loop-done-preserved g c =
     let now = c.loop-done.self in
     let inv = c.loop-done.invariant in
     let next = c.node.ensures ∙ (λ i. node (g.S.Sheet.meaning (inv.1 i)) (g.R.Rule.value (inv.2 i)) (state_of now)) in
-    (advanced-more (g.S.Sheet.meaning self.sheet) (g.R.Rule.value self.rule) c.args.k (state_of self) c.loop-done.done (state_of now) (view c.node.new.core) c.loop-done-test.true (sym c.if-is-finished.ensures) next inv.0, inv.1, inv.2)
+    (advanced-more (g.S.Sheet.meaning self.sheet) (g.R.Rule.value self.rule) c.args.k (state_of self) c.loop-done.done (state_of now) (view c.node.new.core) c.loop-done-test.true (sym c.if-is_finished.ensures) next inv.0, inv.1, inv.2)
