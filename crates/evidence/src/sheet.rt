@@ -1,7 +1,7 @@
 // A sheet read from evidence: three lent lists of records, read by place.
 ghost use Rattle.std.specs.Prelude.{◌≡◌, ℕ, ◌≤◌, if◌then◌else◌, Some, None, slice_index_or};
 ghost use Rattle.sheets.specs.Refusals.{first_no};
-ghost use Rattle.evidence.specs.Evidence.{wiring as wiringOf, rises as risesOf, order as order_of, evidence, meaning_of};
+ghost use Rattle.evidence.specs.Evidence.{wiring as wiring_of, rises as rises_of, order as order_of, evidence, meaning_of};
 ghost use Rattle.evidence.specs.Judged.{serials, places, Answered};
 ghost use Rattle.evidence.specs.Laws.{evidence-lawful};
 ghost use Rattle.evidence.specs.Worked.{Worked};
@@ -41,7 +41,7 @@ fn record_at<R: Copy>(records: &[R], place: usize, absent: R) -> R
 
 // 40 for one collector and one riser, 15 for two collectors and two risers.
 fn wiring(a: Meter, b: Meter, f: Flat, g: Flat) -> Points
-    ensures { result ≡ wiringOf a b f g }
+    ensures { result ≡ wiring_of a b f g }
 {
     match (a.collector == b.collector, f.riser == g.riser) {
         (true, true) => 40,
@@ -52,7 +52,7 @@ fn wiring(a: Meter, b: Meter, f: Flat, g: Flat) -> Points
 
 // Whether the higher serial has the higher floor.
 fn rises(a: Meter, b: Meter, f: Flat, g: Flat) -> bool
-    ensures { result ≡ risesOf a b f g }
+    ensures { result ≡ rises_of a b f g }
 {
     (a.serial < b.serial && f.floor < g.floor) || (b.serial < a.serial && g.floor < f.floor)
 }

@@ -1,6 +1,6 @@
 // A sheet that answers from the bytes of a block list.
 ghost use Rattle.std.specs.Prelude.{◌≡◌, min, Ok, Err};
-ghost use Rattle.blocks.specs.Format.{fair as fairOf, known, meaning_of, size_of};
+ghost use Rattle.blocks.specs.Format.{fair as fair_of, known, meaning_of, size_of};
 ghost use Rattle.blocks.specs.Questions.{judged, program_judged};
 ghost use Rattle.list_reader.specs.Laws.{list_lawful};
 ghost use Rattle.list_reader.specs.Sheets.{found, sheet_of};
@@ -39,7 +39,7 @@ fn find(bytes: &[u8], key: usize) -> Option<usize>
 
 // Points that two that fit may have.
 fn fair(points: Option<usize>) -> Option<usize>
-    ensures { result ≡ fairOf points }
+    ensures { result ≡ fair_of points }
 {
     match points {
         Some(points) if points < 65535 => Some(points),

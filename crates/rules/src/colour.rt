@@ -3,8 +3,8 @@ ghost use Rattle.std.specs.Prelude.{◌≡◌, ℕ, ◌≤◌, length};
 ghost use Rattle.candidates.specs.Members.{has, members};
 ghost use Rattle.candidates.specs.Sets.{is_in};
 ghost use Rattle.rules.specs.Arrays.{at};
-ghost use Rattle.rules.specs.Bounds.{inside as insideOf};
-ghost use Rattle.rules.specs.Colour.{Partition, class_of, classes, colour as colourOf, coloured as colouredBy, least_of, raised, rise as riseOf, started as startedBy, sum_of_highest};
+ghost use Rattle.rules.specs.Bounds.{inside as inside_of};
+ghost use Rattle.rules.specs.Colour.{Partition, class_of, classes, colour as colour_of, coloured as coloured_by, least_of, raised, rise as rise_of, started as started_by, sum_of_highest};
 ghost use Rattle.rules.specs.ColourBounds.{colour-bounds};
 
 use crate::greatest::greatest_of;
@@ -18,7 +18,7 @@ pub struct Colour;
 
 // σ at the start.
 fn started<S: Sheet>(sheet: &S, c: CandidateSet, s: CandidateSet) -> [u64; 256]
-    ensures { (k : ℕ) → at result k ≡ startedBy (S.Sheet.meaning sheet.now) (members c) (members s) k }
+    ensures { (k : ℕ) → at result k ≡ started_by (S.Sheet.meaning sheet.now) (members c) (members s) k }
 {
     let mut sigma = [0; 256];
     for v in s.iter() {
@@ -55,7 +55,7 @@ fn class_of<S: Sheet>(sheet: &S, sigma: &[u64; 256], left: CandidateSet) -> Cand
 
 // The greatest of the points of v with a member of the class.
 fn rise<S: Sheet>(sheet: &S, class: CandidateSet, v: usize) -> u64
-    ensures { result ≡ riseOf (S.Sheet.meaning sheet.now) (members class) v }
+    ensures { result ≡ rise_of (S.Sheet.meaning sheet.now) (members class) v }
 {
     let mut most: u64 = 0;
     for u in class.iter() {
@@ -77,7 +77,7 @@ fn raise<S: Sheet>(sheet: &S, class: CandidateSet, left: CandidateSet, sigma: &m
 // The sum of the highest σ of each class, where σ starts at no more than 256 times the most points of two.
 fn coloured<S: Sheet>(sheet: &S, mut sigma: [u64; 256], s: CandidateSet) -> u64
     requires { (k : ℕ) → at sigma k ≤ 16776704 }
-    ensures { result ≡ sum_of_highest (colouredBy (S.Sheet.meaning sheet.now) (length (members s)) (at sigma) (members s)) }
+    ensures { result ≡ sum_of_highest (coloured_by (S.Sheet.meaning sheet.now) (length (members s)) (at sigma) (members s)) }
 {
     let mut left = s;
     let mut sum = 0;
@@ -93,8 +93,8 @@ fn coloured<S: Sheet>(sheet: &S, mut sigma: [u64; 256], s: CandidateSet) -> u64
 impl Colour {
     // The sum, over the classes that s falls into, of the greatest σ in each.
     pub fn sum_of_highest<S: Sheet>(sheet: &S, c: CandidateSet, s: CandidateSet) -> u64
-        ensures value { let m = S.Sheet.meaning sheet.now in result ≡ colourOf m (insideOf m (members c)) (insideOf m (members s)) }
-        ensures classes { let m = S.Sheet.meaning sheet.now in Partition m (insideOf m (members s)) (classes m (insideOf m (members c)) (insideOf m (members s))) }
+        ensures value { let m = S.Sheet.meaning sheet.now in result ≡ colour_of m (inside_of m (members c)) (inside_of m (members s)) }
+        ensures classes { let m = S.Sheet.meaning sheet.now in Partition m (inside_of m (members s)) (classes m (inside_of m (members c)) (inside_of m (members s))) }
     {
         let c = inside(sheet, c);
         let s = inside(sheet, s);
@@ -103,7 +103,7 @@ impl Colour {
 }
 
 impl Rule for Colour {
-    ghost value = { λ _. colourOf };
+    ghost value = { λ _. colour_of };
 
     ghost bounds = { λ _. colour-bounds };
 

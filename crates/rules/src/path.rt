@@ -2,7 +2,7 @@
 ghost use Rattle.std.specs.Prelude.{◌≡◌, ◌^◌, ◌<◌};
 ghost use Rattle.candidates.specs.Members.{members};
 ghost use Rattle.rules.specs.Arrays.{at};
-ghost use Rattle.rules.specs.Path.{length_of, path as pathOf};
+ghost use Rattle.rules.specs.Path.{length_of, path as path_of};
 ghost use Rattle.rules.specs.PathBounds.{path-bounds};
 
 use crate::greatest::greatest_of;
@@ -31,8 +31,8 @@ fn length_of<S: Sheet>(
 
 // The greatest length of a member.
 fn longest<S: Sheet>(sheet: &S, c: CandidateSet, s: CandidateSet) -> u64
-    requires { pathOf (S.Sheet.meaning sheet.now) (members c) (members s) < 2 ^ 64 }
-    ensures { result ≡ pathOf (S.Sheet.meaning sheet.now) (members c) (members s) }
+    requires { path_of (S.Sheet.meaning sheet.now) (members c) (members s) < 2 ^ 64 }
+    ensures { result ≡ path_of (S.Sheet.meaning sheet.now) (members c) (members s) }
 {
     let mut lengths = [0; 256];
     let mut lower = CandidateSet::empty();
@@ -47,7 +47,7 @@ fn longest<S: Sheet>(sheet: &S, c: CandidateSet, s: CandidateSet) -> u64
 }
 
 impl Rule for Path {
-    ghost value = { λ _. pathOf };
+    ghost value = { λ _. path_of };
 
     ghost bounds = { λ _. path-bounds };
 

@@ -1,6 +1,6 @@
 // A new search and a list of calls on it.
 ghost use Rattle.std.specs.Prelude.{◌≡◌, map, IfOk};
-ghost use Rattle.runs.specs.Calls.{answers as answersOf, answers_from, reply, written};
+ghost use Rattle.runs.specs.Calls.{answers as answers_of, answers_from, reply, written};
 ghost use Rattle.runs.specs.Promise.{Promise};
 ghost use Rattle.runs.specs.Worked.{WorkedCases};
 ghost use Rattle.search.specs.Replay.{answer_of, call_of};
@@ -60,7 +60,7 @@ pub fn replay<S: Sheet + Drop, R: Rule + Drop>(
     rule: R,
     calls: &[Call],
 ) -> Result<Vec<Answer>, AllocError>
-    ensures answers { IfOk result (λ v. map answer_of v.items ≡ answersOf (S.Sheet.meaning sheet) (R.Rule.value rule) (map call_of calls.now)) }
+    ensures answers { IfOk result (λ v. map answer_of v.items ≡ answers_of (S.Sheet.meaning sheet) (R.Rule.value rule) (map call_of calls.now)) }
     ensures promise { Promise (S.Sheet.meaning sheet) (R.Rule.value rule) }
     ensures worked { WorkedCases }
 {

@@ -1,6 +1,6 @@
 // A search over a sheet, under a rule, both of which it owns until it is closed.
 ghost use Rattle.std.specs.Prelude.{◌≡◌};
-ghost use Rattle.runs.specs.State.{ceiling as ceilingOf, start};
+ghost use Rattle.runs.specs.State.{ceiling as ceiling_of, start};
 ghost use Rattle.search.specs.Searching.{state_of};
 
 use frames::core::Core;
@@ -29,7 +29,7 @@ impl<S: Sheet, R: Rule> Search<S, R> {
 
     // The greatest of the held weight, 0, and the marks on the stack.
     pub fn ceiling(&self) -> u64
-        ensures { result ≡ ceilingOf (state_of self.now) }
+        ensures { result ≡ ceiling_of (state_of self.now) }
     {
         self.core.ceiling()
     }

@@ -2,7 +2,7 @@
 ghost use Rattle.std.specs.Prelude.{◌≡◌, ◌≤◌, Decides};
 ghost use Rattle.candidates.specs.Members.{members};
 ghost use Rattle.sheets.specs.Cliques.{Clique, SmallCliques, fits_all};
-ghost use Rattle.sheets.specs.Weights.{rho as rho_of, weight as weightOf};
+ghost use Rattle.sheets.specs.Weights.{rho as rho_of, weight as weight_of};
 
 use crate::sheet::{Points, Sheet};
 use candidates::set::CandidateSet;
@@ -20,7 +20,7 @@ pub fn rho<S: Sheet>(sheet: &S, set: CandidateSet, v: usize) -> Points
 
 // The points of all pairs within the set, each pair once.
 pub fn weight<S: Sheet>(sheet: &S, set: CandidateSet) -> Points
-    ensures value { result ≡ weightOf (S.Sheet.meaning sheet.now) (members set) }
+    ensures value { result ≡ weight_of (S.Sheet.meaning sheet.now) (members set) }
     ensures bound { result ≤ 2139029760 }
 {
     let mut rest = set;

@@ -4,7 +4,7 @@ ghost use Rattle.candidates.specs.Members.{members};
 ghost use Rattle.candidates.specs.Sets.{is_in, inserted, removed};
 ghost use Rattle.striking.specs.Judged.{strike_judged, restore_judged};
 ghost use Rattle.striking.specs.Laws.{struck-lawful};
-ghost use Rattle.striking.specs.Striking.{struck as struckOf};
+ghost use Rattle.striking.specs.Striking.{struck as struck_of};
 
 use crate::fault::StrikeFault;
 use candidates::set::CandidateSet;
@@ -79,7 +79,7 @@ impl<S: Sheet> Struck<S> {
 }
 
 impl<S: Sheet> Sheet for Struck<S> {
-    ghost meaning = { λ s. struckOf (S.Sheet.meaning s.sheet) (members s.struck) };
+    ghost meaning = { λ s. struck_of (S.Sheet.meaning s.sheet) (members s.struck) };
 
     ghost lawful = { λ s. struck-lawful (S.Sheet.meaning s.sheet) (members s.struck) (S.Sheet.lawful s.sheet) };
 

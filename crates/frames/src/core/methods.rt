@@ -2,8 +2,8 @@
 ghost use Rattle.std.specs.Prelude.{◌≡◌};
 ghost use Rattle.candidates.specs.Members.{members};
 ghost use Rattle.frames.specs.View.{held_of, view};
-ghost use Rattle.runs.specs.State.{ceiling as ceilingOf, finished, offered, start, state, takes};
-ghost use Rattle.sheets.specs.Weights.{weight as weightOf};
+ghost use Rattle.runs.specs.State.{ceiling as ceiling_of, finished, offered, start, state, takes};
+ghost use Rattle.sheets.specs.Weights.{weight as weight_of};
 
 use crate::core::Core;
 use crate::frame::Frame;
@@ -36,7 +36,7 @@ impl Core {
 
     // Holds the set if none is held or it is heavier, and answers whether it was taken.
     pub fn offer<S: Sheet>(&mut self, sheet: &S, set: CandidateSet) -> bool
-        ensures value { result ≡ takes (view self.old).held (weightOf (S.Sheet.meaning sheet.now) (members set)) }
+        ensures value { result ≡ takes (view self.old).held (weight_of (S.Sheet.meaning sheet.now) (members set)) }
         ensures after { view self.new ≡ state (offered (S.Sheet.meaning sheet.now) (view self.old).held (members set)) (view self.old).stack }
     {
         let weight = weight(sheet, set);
@@ -59,7 +59,7 @@ impl Core {
 
     // The greatest of the held weight, 0, and the marks on the stack.
     pub fn ceiling(&self) -> u64
-        ensures { result ≡ ceilingOf (view self.now) }
+        ensures { result ≡ ceiling_of (view self.now) }
     {
         self.held.unwrap_or(0).max(self.stack.highest())
     }

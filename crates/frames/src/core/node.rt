@@ -4,7 +4,7 @@ ghost use Rattle.candidates.specs.Members.{members};
 ghost use Rattle.frames.specs.Branches.{child, lowered, on_top};
 ghost use Rattle.frames.specs.Shown.{frames_of, shown};
 ghost use Rattle.frames.specs.View.{view};
-ghost use Rattle.runs.specs.State.{bound as boundOf, node as node_of, reaches};
+ghost use Rattle.runs.specs.State.{bound as bound_of, node as node_of, reaches};
 
 use crate::core::Core;
 use crate::frame::Frame;
@@ -16,7 +16,7 @@ use sheets::sums::weight;
 
 // W(C) plus the rule's number, unless the held weight reaches it.
 fn open_bound<S: Sheet, R: Rule>(sheet: &S, rule: &R, core: &Core, top: Frame) -> Option<u64>
-    ensures { let b = boundOf (S.Sheet.meaning sheet.now) (R.Rule.value rule.now) (members top.clique) (members top.rest) in result ≡ (if reaches (view core.now).held b then None else Some b) }
+    ensures { let b = bound_of (S.Sheet.meaning sheet.now) (R.Rule.value rule.now) (members top.clique) (members top.rest) in result ≡ (if reaches (view core.now).held b then None else Some b) }
 {
     let weight = weight(sheet, top.clique);
     if let Some(held) = core.held {

@@ -1,7 +1,7 @@
 // The marks on a stack of frames.
 ghost use Rattle.std.specs.Prelude.{◌≡◌};
 ghost use Rattle.frames.specs.Shown.{frames_of};
-ghost use Rattle.runs.specs.State.{highest as highestOf};
+ghost use Rattle.runs.specs.State.{highest as highest_of};
 
 use crate::frame::Frame;
 use crate::stack::Stack;
@@ -9,7 +9,7 @@ use crate::stack::Stack;
 impl Stack<Frame> {
     // The greatest of 0 and the marks.
     pub(crate) fn highest(&self) -> u64
-        ensures { result ≡ highestOf (frames_of self.now) }
+        ensures { result ≡ highest_of (frames_of self.now) }
     {
         if self.count == 0 {
             return 0;

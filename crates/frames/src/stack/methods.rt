@@ -1,7 +1,7 @@
 // What can be done with a stack.
 ghost use Rattle.std.specs.Borrow.{follows, sem};
 ghost use Rattle.std.specs.Prelude.{◌≡◌, ◌<◌, [], ◌∷◌, length, drop};
-ghost use Rattle.frames.specs.contracts.stack.Stack.{the_row as stackRow};
+ghost use Rattle.frames.specs.contracts.stack.Stack.{the_row as stack_row};
 ghost use Rattle.frames.specs.Stacks.{items, top_of, with_head};
 
 use crate::stack::Stack;
@@ -31,7 +31,7 @@ impl<F: Copy> Stack<F> {
 
     // The top, lent to be changed.
     pub(crate) fn top(&mut self) -> &mut F
-        ensures* changes { sem 𝓛 (follows (stackRow F.row) F.row self.entry.ghost_name result.ghost_name (with_head self.old)) }
+        ensures* changes { sem 𝓛 (follows (stack_row F.row) F.row self.entry.ghost_name result.ghost_name (with_head self.old)) }
         ensures value { result.now ≡ self.old.head }
     {
         &mut self.head

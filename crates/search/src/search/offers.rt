@@ -1,7 +1,7 @@
 // The offer to a search.
 ghost use Rattle.std.specs.Prelude.{◌≡◌, [], Some, None, Ok, Err};
 ghost use Rattle.candidates.specs.Members.{members};
-ghost use Rattle.runs.specs.Calls.{first_no, offer as offerOf, offer_questions};
+ghost use Rattle.runs.specs.Calls.{first_no, offer as offer_of, offer_questions};
 ghost use Rattle.search.specs.Offers.{first_unfit};
 ghost use Rattle.search.specs.Refusals.{offer_refused};
 ghost use Rattle.search.specs.Replies.{offer_answer, replied};
@@ -51,7 +51,7 @@ impl<S: Sheet, R: Rule> Search<S, R> {
     // A clique, its members upwards: it becomes the held set if none is held or it is heavier. Answers whether it was
     // taken.
     pub fn offer(&mut self, list: &[usize]) -> Result<bool, OfferRefusal>
-        ensures value { replied (offer_answer result) (state_of self.new) ≡ offerOf (S.Sheet.meaning self.old.sheet) (state_of self.old) list.now }
+        ensures value { replied (offer_answer result) (state_of self.new) ≡ offer_of (S.Sheet.meaning self.old.sheet) (state_of self.old) list.now }
         ensures same { (self.new.sheet ≡ self.old.sheet) × (self.new.rule ≡ self.old.rule) }
     {
         let set = accepted(&self.sheet, list)?;

@@ -5,11 +5,11 @@ use Rattle.exhaustive.specs.Explored.{Explored, held_of}
 use Rattle.exhaustive.proofs.Branching.{open-with, open-without, fewer-with, fewer-without, explored-both}
 use Rattle.exhaustive.proofs.pairing.+explore.Goals as goal
 
-pub returns-in-default : goal.returns-in-default
-returns-in-default g t c =
+pub returns-in_default : goal.returns-in_default
+returns-in_default g t c =
     let m = g.S.Sheet.meaning c.args.sheet.now in
     let frame = c.args.frame in
-    subst (λ S. Explored m (members frame.clique) S (held_of c.args.held) (held_of c.heavier.result)) (sym (nothing-from-least (members frame.rest) c.in-default.ensures)) c.heavier.ensures
+    subst (λ S. Explored m (members frame.clique) S (held_of c.args.held) (held_of c.heavier.result)) (sym (nothing-from-least (members frame.rest) c.in_default.ensures)) c.heavier.ensures
 
 pub explore-held-requires : goal.explore-held-requires
 explore-held-requires g t c κs within =

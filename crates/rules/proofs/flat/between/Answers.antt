@@ -12,7 +12,7 @@ overflow_add-sum g c =
     let m = g.S.Sheet.meaning c.args.sheet.now in
     let law = g.S.Sheet.lawful c.args.sheet.now in
     let f = rho m (members c.args.c) in
-    let begun = ap remaining c.into_iter-v-iterator.ensures.into_iter-gives ∙ c.iter-v-items.ensures in
+    let begun = ap remaining c.into_iter-v-iterator.ensures.into_iter_gives ∙ c.iter-v-items.ensures in
     omega (
       arith,
       c.loop-v.invariant,

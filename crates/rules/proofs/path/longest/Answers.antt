@@ -38,7 +38,7 @@ pushed : (g : given.Over) (c : After-max-most g) → members c.with-lower.result
 pushed g c =
     let v = c.in-Some.v in
     let lower = members c.loop-v.lower in
-    let begun = ap remaining c.into_iter-v-iterator.ensures.into_iter-gives ∙ c.iter-v-items.ensures in
+    let begun = ap remaining c.into_iter-v-iterator.ensures.into_iter_gives ∙ c.iter-v-items.ensures in
     let up = subst Ascending (sym (split g c ∙ begun)) (members-from c.args.s) in
     c.with-lower.ensures.list
     ∙ cond-true (ltb v 256) (inserted v lower) lower (lt-ltb v 256 (next-below _ _ _ (left g c)))

@@ -10,7 +10,7 @@ use Rattle.sheets.specs.Meaning.{Meaning, Lawful}
 use Rattle.sheets.proofs.Cliques.{is_clique-decides, small-cliques}
 use Rattle.sheets.proofs.sums.is_clique.Given as given
 use Rattle.sheets.proofs.sums.is_clique.Goals as goal
-use Rattle.sheets.proofs.sums.is_clique.Goals.{After-without-rest, then-v-size-via-then-v-size, then-v-size-via-else-v-size+then-not-fits-all}
+use Rattle.sheets.proofs.sums.is_clique.Goals.{After-without-rest, then-v-size-via-then-v-size, then-v-size-via-else-v-size+then-not-fits_all}
 
 -- what was left is v and what is left now
 taken : (g : given.Over) (c : After-without-rest g) → members c.loop-v.rest ≡ c.in-Some.v ∷ members c.without-rest.result
@@ -28,7 +28,7 @@ returns-then-v-size g c =
     let fails : is_clique m (v ∷ K) ≡ false =
     elim c.then-v-size.branch [
       | then-v-size-via-then-v-size w ↦ let out : m.size ≤ v = omega (arith, w.if-v-size.true) in and_left (ltb v m.size) (fits_all m v K && is_clique m K) (le-ltb v m.size out)
-      | then-v-size-via-else-v-size+then-not-fits-all w ↦ and_right (ltb v m.size) (fits_all m v K && is_clique m K) (and_left (fits_all m v K) (is_clique m K) (sym w.if-not-fits_all.ensures))
+      | then-v-size-via-else-v-size+then-not-fits_all w ↦ and_right (ltb v m.size) (fits_all m v K && is_clique m K) (and_left (fits_all m v K) (is_clique m K) (sym w.if-not-fits_all.ensures))
     ] in
     let is = sym fails ∙ ap (is_clique m) (sym (taken g (goal.at.returns-then-v-size g c).After-without-rest)) ∙ c.loop-v.invariant in
     record { value = judged m law c.args.set false is; small = small-cliques m law }
@@ -49,5 +49,5 @@ pub returns : goal.returns
 returns g c =
     let m = g.S.Sheet.meaning c.args.sheet.now in
     let law = g.S.Sheet.lawful c.args.sheet.now in
-    let is = sym (ap (is_clique m) (nothing-from-least (members c.loop-v.rest) c.in-default.ensures)) ∙ c.loop-v.invariant in
+    let is = sym (ap (is_clique m) (nothing-from-least (members c.loop-v.rest) c.in_default.ensures)) ∙ c.loop-v.invariant in
     record { value = judged m law c.args.set true is; small = small-cliques m law }

@@ -11,7 +11,7 @@ overflow_add-sum g c =
     let m = g.S.Sheet.meaning c.args.sheet.now in
     let set = c.args.set in
     let v = c.args.v in
-    let begun = ap remaining c.into_iter-u-iterator.ensures.into_iter-gives ∙ c.iter-u-items.ensures in
+    let begun = ap remaining c.into_iter-u-iterator.ensures.into_iter_gives ∙ c.iter-u-items.ensures in
     omega (
       arith,
       c.loop-u.invariant,

@@ -27,6 +27,6 @@ loop-v-preserved g c = omega (arith, c.loop-v.invariant, ap (weight (g.S.Sheet.m
 pub returns : goal.returns
 returns g c =
     let m = g.S.Sheet.meaning c.args.sheet.now in
-    let all = ap (weight m) (nothing-from-least (members c.loop-v.rest) c.in-default.ensures) in
+    let all = ap (weight m) (nothing-from-least (members c.loop-v.rest) c.in_default.ensures) in
     let whole : c.loop-v.sum ≡ weight m (members c.args.set) = omega (arith, c.loop-v.invariant) in
     record { value = whole; bound = omega (arith, weight-limit m (g.S.Sheet.lawful c.args.sheet.now) (members c.args.set) (length-members c.args.set)) }

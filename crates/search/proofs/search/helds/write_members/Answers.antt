@@ -15,5 +15,5 @@ loop-v-preserved c =
 pub returns : goal.returns
 returns c =
     let l = c.loop-v in
-    let begun = ap remaining c.into_iter-v-iterator.ensures.into_iter-gives ∙ c.iter-v-items.ensures in
+    let begun = ap remaining c.into_iter-v-iterator.ensures.into_iter_gives ∙ c.iter-v-items.ensures in
     sym (filled_none l.buffer l.place) ∙ ap (filled l.buffer l.place) (sym c.in-None.ensures.steps) ∙ l.invariant.1 ∙ ap (filled c.args.buffer.now 0) begun ∙ filled-all c.args.buffer.now _

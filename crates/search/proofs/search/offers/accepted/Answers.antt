@@ -31,7 +31,7 @@ loop-place-preserved g c =
       added ∙ ap (λ xs. xs ++ v ∷ []) c.loop-place.invariant.0 ∙ sym (take_more list c.loop-place.place 0 c.loop-place-test.true),
       subst (λ xs. (k : ℕ) → is_in k xs ≡ true → k < v + 1) (sym added) below,
       omega arith,
-      asked-next m list c.loop-place.least c.loop-place.place c.loop-place-test.true low c.if-v-least.false c.in-default.ensures ∙ c.loop-place.invariant.3,
+      asked-next m list c.loop-place.least c.loop-place.place c.loop-place-test.true low c.if-v-least.false c.in_default.ensures ∙ c.loop-place.invariant.3,
     )
 
 pub returns : goal.returns
