@@ -1,10 +1,10 @@
 -- The laws of a sheet hold of every table.
-use Rattle.std.specs.Prelude.{◌≡◌, ℕ, ◌<◌, ◌≤◌, min, max, true, false, cond, ◌&&◌, List, nat_lt}
-use Rattle.std.proofs.Common.{◌∙◌, arith}
+use Rattle.std.specs.Prelude.{◌≡◌, ℕ, ◌<◌, ◌≤◌, min, max, true, cond, ◌&&◌, List, nat_lt}
+use Rattle.std.proofs.Common.{arith}
 use Rattle.std.proofs.lemmas.Bool.{and_left, and_right, and_parts, le-ltb, ltb-true, cond-false, cond_both}
 use Rattle.sheets.specs.declared.table.TableSheet.{TableSheet}
 use Rattle.sheets.specs.Meaning.{Lawful}
-use Rattle.sheets.specs.Tables.{entry, entries_of, table_fit, table, meaning_of}
+use Rattle.sheets.specs.Tables.{entry, table_fit, table, meaning_of}
 
 entry-both : (xs : List ℕ) (u v : ℕ) → entry xs u v ≡ entry xs v u
 entry-both xs u v =

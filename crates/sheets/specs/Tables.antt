@@ -1,5 +1,5 @@
 -- A table sheet: an entry for each two candidates, and when a table is refused.
-use Rattle.std.specs.Prelude.{ℕ, ◌+◌, ◌-◌, ◌*◌, ◌/◌, min, max, Bool, cond, ◌&&◌, List, [], ◌∷◌, length, Some, None, Ok, Err, Option, Result, ◌==◌, nat_le, nat_lt, slice_index_or}
+use Rattle.std.specs.Prelude.{ℕ, ◌+◌, ◌-◌, ◌*◌, ◌/◌, min, max, Bool, cond, ◌&&◌, List, [], ◌∷◌, length, Result, ◌==◌, nat_le, nat_lt, slice_index_or}
 use Rattle.sheets.specs.declared.table.TableFault.{TableFault}
 use Rattle.sheets.specs.declared.table.TableFault.TheVariants.{Size, Entries}
 use Rattle.sheets.specs.declared.table.TableSheet.{TableSheet}

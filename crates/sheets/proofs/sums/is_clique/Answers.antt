@@ -1,4 +1,4 @@
-use Rattle.std.proofs.Common.{◌≡◌, ◌<◌, ◌≤◌, Bool, true, false, ◌&&◌, ltb, ◌∷◌, length, Decides, sym, refl, ap, ◌∙◌, arith}
+use Rattle.std.proofs.Common.{◌≡◌, ◌≤◌, Bool, true, false, ◌&&◌, ltb, ◌∷◌, length, Decides, sym, ap, ◌∙◌, arith}
 use Rattle.std.proofs.lemmas.Bool.{le-ltb, lt-ltb, and_left, and_right}
 use Rattle.std.proofs.lemmas.Bool.Decides.{Decides-at}
 use Rattle.candidates.specs.declared.set.CandidateSet.{CandidateSet}

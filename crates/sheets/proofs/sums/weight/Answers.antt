@@ -1,4 +1,4 @@
-use Rattle.std.proofs.Common.{◌≡◌, ◌≤◌, List, [], ◌∷◌, length, ap, arith}
+use Rattle.std.proofs.Common.{◌≡◌, ◌≤◌, ◌∷◌, length, ap, arith}
 use Rattle.candidates.specs.Members.{members}
 use Rattle.candidates.proofs.Marks.{length-members, members-lowest}
 use Rattle.candidates.proofs.Sets.{nothing-from-least}
