@@ -1,7 +1,7 @@
 #!/usr/bin/env python3
 """Measures a pairing program beside the independent solver on the same lists, as a Markdown table.
 
-    solver/bench.py target/bin/pairing
+    solver/bench.py crates/pairing/out/pairing
 
 Each number is nanoseconds a node: the processor time of the whole process, less that of a run on the smallest list, over the
 nodes. The two programs take turns, and the best of the runs counts. The last column is what the solver says of its search

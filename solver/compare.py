@@ -1,7 +1,7 @@
 #!/usr/bin/env python3
 """Runs a pairing program and the independent solver on the same lists and compares what they print, byte for byte.
 
-    solver/compare.py target/bin/pairing [--lists N] [--seed S] [--fast] [--unfinished]
+    solver/compare.py crates/pairing/out/pairing [--lists N] [--seed S] [--fast] [--unfinished]
 
 What is printed is also held against what is known otherwise: the shape of the lines, the answers of worked lists, the refusal
 that a damage was aimed at, the weight of the printed set, and for at most 12 candidates every clique there is. The status is
