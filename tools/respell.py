@@ -4,7 +4,8 @@
 usage: tools/respell.py [FOLDER]   the repository; this folder where none is named
 
 A name is turned where a file of specs/ or proofs/ declares it and a part of it, between dashes, has a hump: `isIn` becomes `is_in`,
-`firstNo-yes` becomes `first_no-yes`. Types, modules and the names of the code keep theirs. Run after the kit's own script, once.
+`firstNo-yes` becomes `first_no-yes`. In src/ each name that begins low and has a hump is a clause's own, as `weight as weightOf`, and
+is turned too. Types, modules and the names of the code keep theirs. Run after the kit's own script, once.
 """
 
 import pathlib
@@ -60,7 +61,7 @@ def main():
     changed = 0
     for path in paths:
         old = path.read_text()
-        new = NAME.sub(lambda m: turned.get(m.group(0), m.group(0)), old)
+        new = NAME.sub(lambda m: turned.get(m.group(0), snake(m.group(0)) if path.suffix == ".rt" else m.group(0)), old)
         if new != old:
             path.write_text(new)
             changed += 1
