@@ -3,7 +3,7 @@ use Rattle.std.specs.Prelude.{ℕ, Option}
 use Rattle.std.specs.Option.{option_map}
 use Rattle.candidates.specs.declared.set.CandidateSet.{CandidateSet}
 use Rattle.candidates.specs.Members.{members}
-use Rattle.frames.specs.declared.core.Core.{Core}
+use Rattle.frames.specs.declared.search_core.Core.{Core}
 use Rattle.frames.specs.Shown.{frames_of}
 use Rattle.runs.specs.State.{Held, State, state}
 

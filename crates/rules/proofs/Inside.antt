@@ -1,5 +1,5 @@
 -- What of a set is a candidate of the sheet.
-use Rattle.std.proofs.Common.{◌≡◌, ℕ, true, ◌&&◌, ltb, List, sym, ◌∙◌, arith}
+use Rattle.std.proofs.Common.{◌≡◌, ℕ, ◌&&◌, ltb, List, sym, ◌∙◌, arith}
 use Rattle.std.proofs.lemmas.Bool.{and_parts, ltb-true}
 use Rattle.std.proofs.lemmas.Bool.Decides.{nat_tests}
 use Rattle.candidates.specs.declared.set.CandidateSet.{CandidateSet}

@@ -2,7 +2,7 @@
 use Rattle.std.specs.Prelude.{ℕ, ◌*◌, ◌≤◌, List, [], ◌∷◌, length}
 use Rattle.std.proofs.Common.{arith}
 use Rattle.candidates.proofs.Sets.{sub-from-within}
-use Rattle.sheets.specs.Weights.{total, rho, weight}
+use Rattle.sheets.specs.Weights.{total, rho}
 use Rattle.sheets.proofs.Weights.{total-sub, weight-sub, weight-limit}
 use Rattle.rules.specs.Bounds.{Bounds}
 use Rattle.rules.specs.Flat.{flat}

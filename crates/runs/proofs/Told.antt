@@ -3,7 +3,6 @@ use Rattle.std.proofs.Common.{◌≡◌, ℕ, ◌≤◌, leb, ◌⊎◌, List, [
 use Rattle.std.proofs.lemmas.List.{append_cancel_left, take_at}
 use Rattle.std.proofs.lemmas.Bool.{cond_both, cond-true, le-leb}
 use Rattle.sheets.specs.Meaning.{Meaning}
-use Rattle.sheets.specs.Weights.{weight}
 use Rattle.rules.specs.Bounds.{Number}
 use Rattle.runs.specs.State.{Held, State, start, ceiling}
 use Rattle.runs.specs.Calls.{Call, AskHeld, AskCeiling, Answer, Holding, Ceiling, Refused, NoneHeld, TooShort, written, reply, answers}

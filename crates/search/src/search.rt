@@ -3,7 +3,7 @@ ghost use Rattle.std.specs.Prelude.{◌≡◌};
 ghost use Rattle.runs.specs.State.{ceiling as ceiling_of, start};
 ghost use Rattle.search.specs.Searching.{state_of};
 
-use frames::core::Core;
+use frames::search_core::Core;
 use rules::rule::Rule;
 use sheets::sheet::Sheet;
 

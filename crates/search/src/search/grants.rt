@@ -6,7 +6,7 @@ ghost use Rattle.search.specs.Searching.{state_of};
 
 use crate::refusals::GrantRefusal;
 use crate::search::Search;
-use frames::core::node::node;
+use frames::search_core::node::node;
 use rules::rule::Rule;
 use sheets::sheet::Sheet;
 

@@ -27,7 +27,7 @@ fn first_unfit<S: Sheet>(sheet: &S, v: usize, before: &[usize]) -> Option<usize>
 
 // The set of a list that is a clique written upwards; otherwise the first entry that is not as it should be.
 fn accepted<S: Sheet>(sheet: &S, list: &[usize]) -> Result<CandidateSet, OfferRefusal>
-    ensures* { λ r. ⌜ (let asked = first_no (offer_questions (S.Sheet.meaning sheet.now) [] 0 list.entry.now) in elim r [ Ok set ↦ (asked ≡ None) × (members set ≡ list.entry.now) | Err e ↦ asked ≡ Some (offer_refused e) ]) ⌝ }
+    ensures { let asked = first_no (offer_questions (S.Sheet.meaning sheet.now) [] 0 list.now) in elim result [ Ok set ↦ (asked ≡ None) × (members set ≡ list.now) | Err e ↦ asked ≡ Some (offer_refused e) ] }
 {
     let mut set = CandidateSet::empty();
     let mut least = 0;

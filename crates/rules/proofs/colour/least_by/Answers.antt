@@ -13,8 +13,8 @@ use Rattle.rules.proofs.colour.least_by.Goals as goal
 pub loop-v-init : goal.loop-v-init
 loop-v-init c =
     let set = c.args.set in
-    let v = c.in-ok-least.least in
-    let split = cons-from-removed v (members set) (members-from set) (sym c.in-ok-least.was ∙ c.lowest.ensures) in
+    let v = c.in_ok-least.least in
+    let split = cons-from-removed v (members set) (members-from set) (sym c.in_ok-least.was ∙ c.lowest.ensures) in
     (members-below set v (subst (λ l. is_in v l ≡ true) (sym split) (in-first v (removed v (members set)))), refl)
 
 pub offset_bounds-sigma-v : goal.offset_bounds-sigma-v

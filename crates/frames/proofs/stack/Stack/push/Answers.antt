@@ -9,7 +9,7 @@ pub bounds-self-self : goal.bounds-self-self
 bounds-self-self g c = omega (arith, length-items c.args.self.now, c.requires)
 
 pub invariant_of-self-2 : goal.invariant_of-self-2
-invariant_of-self-2 g c = (simp length-set c.args.self.now.whole, (omega (arith, length-items c.args.self.now, c.requires), tt))
+invariant_of-self-2 g c = record { whole = simp length-set c.args.self.now.whole; room = omega (arith, length-items c.args.self.now, c.requires) }
 
 pub returns : goal.returns
 returns g c = items-push c.args.self.now.head c.args.f c.args.self.now.below c.args.self.now.count (omega arith) (omega (arith, length-items c.args.self.now, c.args.self.now.whole, c.requires))

@@ -8,4 +8,4 @@ same-stack : {F : Type 0} (head : F) (below : List F) (count : ℕ) (w w' : 256 
 same-stack head below count w w' r r' = λ i. record { head = head; below = below; count = count; whole = le_prop w w' i; room = le_prop r r' i }
 
 pub returns : goal.returns
-returns g c = ((refl, λ w. same-stack w c.args.self.now.below c.args.self.now.count _ _ _ _), refl)
+returns g c = ((refl, λ w. same-stack w c.args.self.now.below c.args.self.now.count _ _ _ _), record { changes = tt; value = refl })

@@ -1,4 +1,4 @@
-use Rattle.std.proofs.Common.{◌≡◌, ℕ, min, [], refl, ap, ◌∙◌, arith}
+use Rattle.std.proofs.Common.{◌≡◌, min, [], refl, ap, ◌∙◌, arith}
 use Rattle.candidates.specs.Members.{members}
 use Rattle.candidates.specs.Sets.{counting}
 use Rattle.rules.specs.Bounds.{Number, inside}

@@ -3,7 +3,7 @@ use Rattle.std.proofs.lemmas.Bool.{false≢true}
 use Rattle.candidates.specs.declared.set.CandidateSet.{CandidateSet}
 use Rattle.candidates.specs.Members.{members}
 use Rattle.candidates.proofs.Marks.{members-from}
-use Rattle.frames.proofs.core.node.open_bound.Goals as goal
+use Rattle.frames.proofs.search_core.node.open_bound.Goals as goal
 use Rattle.rules.specs.Bounds.{Number, Bounds, inside, over}
 use Rattle.rules.proofs.Inside.{inside-candidates}
 use Rattle.sheets.specs.Meaning.{Meaning, Lawful}
@@ -25,7 +25,7 @@ overflow_add-result g c =
     let number = g.R.Rule.value c.args.rule.now in
     let C = inside m (members c.args.top.clique) in
     let S = inside m (members c.args.top.rest) in
-    let is : c.in-ok-number.number ≡ number m C S = over-same (c.in-Some.held - c.weight-weight.result) (number m C S) c.in-ok-number.number c.in-ok-number.ensures in
+    let is : c.in_ok-number.number ≡ number m C S = over-same (c.in-Some.held - c.weight-weight.result) (number m C S) c.in_ok-number.number c.in_ok-number.ensures in
     omega (arith, c.weight-weight.ensures.bound, number-limit m (g.S.Sheet.lawful c.args.sheet.now) number (g.R.Rule.bounds c.args.rule.now) c.args.top.clique c.args.top.rest)
 
 pub overflow_add-result-2 : goal.overflow_add-result-2

@@ -5,8 +5,8 @@ ghost use Rattle.frames.specs.View.{held_of, view};
 ghost use Rattle.runs.specs.State.{ceiling as ceiling_of, finished, offered, start, state, takes};
 ghost use Rattle.sheets.specs.Weights.{weight as weight_of};
 
-use crate::core::Core;
 use crate::frame::Frame;
+use crate::search_core::Core;
 use crate::stack::Stack;
 use candidates::set::CandidateSet;
 use sheets::sheet::{Points, Sheet};

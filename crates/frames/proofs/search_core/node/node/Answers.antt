@@ -1,7 +1,7 @@
 use Rattle.std.proofs.Common.{lit<}
 use Rattle.frames.specs.View.{view}
 use Rattle.frames.proofs.Frames.{room-above, reach-after, node-after}
-use Rattle.frames.proofs.core.node.node.Goals as goal
+use Rattle.frames.proofs.search_core.node.node.Goals as goal
 
 pub push-requires : goal.push-requires
 push-requires g c =
@@ -13,7 +13,7 @@ pub invariant_of-core-2 : goal.invariant_of-core-2
 invariant_of-core-2 g c =
     let b = c.branch_top-above in
     let core = c.args.core.now in
-    (reach-after core.stack b.new.stack c.push.new.self c.in-Some.top b.result c.in-Some-lowest.v c.in-Some-open_bound.bound c.fitting.result c.in-Some.ensures c.in-Some-lowest.ensures b.ensures.left b.ensures.above c.push.ensures core.room, tt)
+    record { room = reach-after core.stack b.new.stack c.push.new.self c.in-Some.top b.result c.in-Some-lowest.v c.in-Some-open_bound.bound c.fitting.result c.in-Some.ensures c.in-Some-lowest.ensures b.ensures.left b.ensures.above c.push.ensures core.room }
 
 pub returns : goal.returns
 returns g c =

@@ -2,9 +2,9 @@ use Rattle.std.proofs.Common.{◌≡◌, ℕ, min, List, [], ◌∷◌, map, ap,
 use Rattle.candidates.specs.Sets.{counting}
 use Rattle.candidates.proofs.Sets.{length-counting}
 use Rattle.frames.specs.Shown.{shown, frames_of, reach}
-use Rattle.frames.proofs.core.Core.new.Given as given
-use Rattle.frames.proofs.core.Core.new.Goals as goal
-use Rattle.frames.proofs.core.Core.new.Goals.{After-of}
+use Rattle.frames.proofs.search_core.Core.new.Given as given
+use Rattle.frames.proofs.search_core.Core.new.Goals as goal
+use Rattle.frames.proofs.search_core.Core.new.Goals.{After-of}
 use Rattle.runs.specs.State.{frame, start, state}
 use Rattle.sheets.specs.Meaning.{Meaning, Lawful}
 use Rattle.sheets.specs.Weights.{weight}
@@ -25,7 +25,7 @@ frames-start g c =
 pub invariant_of-result : goal.invariant_of-result
 invariant_of-result g c =
     let m = g.S.Sheet.meaning c.args.sheet.now in
-    (omega (arith, ap reach (frames-start g (goal.at.invariant_of-result g c).After-of), length-counting 0 m.size, (g.S.Sheet.lawful c.args.sheet.now).most), tt)
+    record { room = omega (arith, ap reach (frames-start g (goal.at.invariant_of-result g c).After-of), length-counting 0 m.size, (g.S.Sheet.lawful c.args.sheet.now).most) }
 
 pub returns : goal.returns
 returns g c = ap (state _) (frames-start g (goal.at.returns g c).After-of)

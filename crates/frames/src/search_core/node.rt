@@ -6,8 +6,8 @@ ghost use Rattle.frames.specs.Shown.{frames_of, shown};
 ghost use Rattle.frames.specs.View.{view};
 ghost use Rattle.runs.specs.State.{bound as bound_of, node as node_of, reaches};
 
-use crate::core::Core;
 use crate::frame::Frame;
+use crate::search_core::Core;
 use crate::stack::Stack;
 use candidates::set::CandidateSet;
 use rules::rule::Rule;
