@@ -11,7 +11,7 @@ use Rattle.blocks.specs.declared.faults.ProgramFault.{ProgramFault}
 use Rattle.blocks.specs.declared.faults.ProgramFault.TheVariants.{Long}
 use Rattle.blocks.specs.declared.faults.ProgramFault.TheVariants.{List as Listed}
 use Rattle.blocks.specs.Bytes.{number, part, all_zero}
-use Rattle.blocks.specs.Format.{Record, block, block_count, check, record_at, record_count, size_of}
+use Rattle.blocks.specs.Format.{block, block_count, check, record_at, record_count, size_of}
 
 -- questions with the fault that a no is
 abbrev pub Asked : Type 0 → Type 0

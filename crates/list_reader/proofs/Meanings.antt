@@ -1,7 +1,7 @@
 -- The sheet that answers from accepted bytes is the one that they hold.
-use Rattle.std.proofs.Common.{◌≡◌, ℕ, zero, suc, ◌+◌, ◌-◌, ◌*◌, ◌<◌, ◌≤◌, min, List, get_or, Ok, Err, sym, refl, ap, ◌∙◌, subst, add-suc, add-one, arith}
+use Rattle.std.proofs.Common.{◌≡◌, ℕ, zero, suc, ◌+◌, ◌-◌, ◌<◌, min, List, get_or, Ok, refl, ap, ◌∙◌, arith}
 use mathlib.Core.Path.{fun_ext}
-use Rattle.blocks.specs.Format.{Record, look, record_at, record_count, records_of, size_of, sheet_by, meaning_of}
+use Rattle.blocks.specs.Format.{look, record_at, record_count, records_of, size_of, sheet_by, meaning_of}
 use Rattle.blocks.specs.Questions.{judged}
 use Rattle.blocks.proofs.Accepted.{Accepted, accepted-from-judged, record-right}
 use Rattle.list_reader.specs.Sheets.{found}

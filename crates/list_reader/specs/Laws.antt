@@ -1,5 +1,5 @@
 -- The laws of a sheet hold of every sheet whose points are known by key.
-use Rattle.std.specs.Prelude.{◌≡◌, ℕ, ◌+◌, ◌*◌, ◌≤◌, min, max, true, false, cond, ◌&&◌, is_some, Some, None, Option, nat_lt, refl}
+use Rattle.std.specs.Prelude.{◌≡◌, ℕ, ◌+◌, ◌*◌, ◌≤◌, min, max, false, ◌&&◌, is_some, Some, None, Option, nat_lt, refl}
 use Rattle.std.proofs.Common.{ap}
 use native.Mathlib.Omega.{arith}
 use Rattle.std.proofs.lemmas.Bool.{true≢false, and_left, and_right, le-ltb, ltb-true, cond-false, cond_both}

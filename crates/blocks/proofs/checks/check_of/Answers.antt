@@ -1,4 +1,4 @@
-use Rattle.std.proofs.Common.{◌≡◌, ◌+◌, ◌*◌, ◌≤◌, ap, mul-le-mul, arith}
+use Rattle.std.proofs.Common.{◌+◌, ◌*◌, ◌≤◌, ap, mul-le-mul, arith}
 use Rattle.blocks.proofs.Sums.{weighed-more, weighed-all}
 use Rattle.blocks.proofs.checks.check_of.Goals as goal
 

@@ -11,12 +11,12 @@ pub returns-then-bytes-gt65536 : goal.returns-then-bytes-gt65536
 unfolding program_judged
 returns-then-bytes-gt65536 c = grind (arith, nat_tests)
 
-pub returns-in-err-sheet : goal.returns-in-err-sheet
-returns-in-err-sheet c =
+pub returns-in_err-sheet : goal.returns-in_err-sheet
+returns-in_err-sheet c =
     let p = err_from_is_err_and c.from_residual.result c.from_residual.ensures.1 in
-    rw (p.1, p.2) (program-asked c.args.bytes.now c.if-bytes-gt65536.false ∙ ap (raised Listed) c.in-err-sheet.ensures)
+    rw (p.1, p.2) (program-asked c.args.bytes.now c.if-bytes-gt65536.false ∙ ap (raised Listed) c.in_err-sheet.ensures)
 
 pub returns : goal.returns
 returns c =
-    let read = c.in-ok-sheet.ensures in
+    let read = c.in_ok-sheet.ensures in
     (program-asked c.args.bytes.now c.if-bytes-gt65536.false ∙ ap (raised Listed) read.0, read.1)
