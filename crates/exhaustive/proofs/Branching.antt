@@ -1,5 +1,5 @@
 -- What the two frames that a frame branches into keep of it.
-use Rattle.std.proofs.Common.{◌≡◌, ℕ, ◌<◌, true, List, [], ◌∷◌, ◌++◌, length, Some, ap, ◌∙◌, subst, arith}
+use Rattle.std.proofs.Common.{◌≡◌, ℕ, ◌<◌, true, [], ◌∷◌, ◌++◌, length, Some, ap, ◌∙◌, subst, arith}
 use Rattle.candidates.specs.Members.{members}
 use Rattle.candidates.specs.Sets.{is_in, least}
 use Rattle.candidates.proofs.Marks.{members-lowest, members-last, members-below}

@@ -1,6 +1,5 @@
 -- What is held after a leaf, after both branches of a frame, and at the end.
-use Rattle.std.proofs.Common.{◌≡◌, ℕ, ◌<◌, ◌≤◌, List, [], ◌∷◌, ◌++◌, Some, None, filter, sym, refl, ap, ◌∙◌, subst, ⊎_elim, arith}
-use Rattle.candidates.specs.Order.{Earlier}
+use Rattle.std.proofs.Common.{◌≡◌, ℕ, ◌<◌, List, [], ◌∷◌, ◌++◌, Some, None, filter, sym, refl, ap, ◌∙◌, subst, ⊎_elim, arith}
 use Rattle.candidates.specs.Sets.{counting}
 use Rattle.sheets.specs.Heaviest.{FirstHeaviest}
 use Rattle.exhaustive.specs.Explored.{Held, Covers, Lighter, Found, Explored}

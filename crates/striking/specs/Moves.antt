@@ -1,6 +1,6 @@
 -- What a list of strikes and restores says of a candidate.
-use Rattle.std.specs.Prelude.{◌≡◌, ℕ, Bool, true, false, List, ◌∷◌, ◌≢◌}
-use Rattle.std.specs.List.{AllByRecursion as All}
+use Rattle.std.specs.Prelude.{ℕ, Bool, true, false, List, ◌∷◌, ◌≢◌}
+use Rattle.std.specs.List.{AllByRecursion}
 use Rattle.striking.specs.declared.moves.Move.{Move}
 use Rattle.striking.specs.declared.moves.Move.TheVariants.{Strike, Restore}
 
@@ -15,7 +15,7 @@ strikes (Restore _) = false
 
 -- no move names v
 abbrev pub Silent : ℕ → List Move → Type 0
-Silent v moves = All (λ move. named move ≢ v) moves
+Silent v moves = AllByRecursion (λ move. named move ≢ v) moves
 
 -- The last of the moves that name v is a strike: it strikes v, and no later one names v.
 pub data LastStrikes (v : ℕ) : List Move → Type 0 where

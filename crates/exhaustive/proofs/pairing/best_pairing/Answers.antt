@@ -1,4 +1,4 @@
-use Rattle.std.proofs.Common.{◌≡◌, ℕ, min, true, List, [], is_some, Some, None, Option, unwrap_or, sym, refl, ap, ◌∙◌, subst, arith}
+use Rattle.std.proofs.Common.{◌≡◌, ℕ, min, List, [], is_some, Some, None, Option, unwrap_or, sym, refl, ap, ◌∙◌, subst, arith}
 use Rattle.std.proofs.lemmas.Bool.{false≢true}
 use Rattle.candidates.specs.Members.{members}
 use Rattle.candidates.specs.Sets.{counting}
@@ -8,7 +8,6 @@ use Rattle.exhaustive.proofs.Frames.{explored-start}
 use Rattle.exhaustive.proofs.pairing.best_pairing.Given as given
 use Rattle.exhaustive.proofs.pairing.best_pairing.Goals as goal
 use Rattle.exhaustive.proofs.pairing.best_pairing.Goals.{After-first, After-explore}
-use Rattle.sheets.specs.Frames.{Open}
 use Rattle.sheets.specs.Heaviest.{FirstHeaviest}
 use Rattle.sheets.specs.Meaning.{Meaning}
 use Rattle.sheets.proofs.Comes.{open-start}
@@ -32,7 +31,7 @@ told m r e = by r (explored-start m (held_of r) e)
         (p, refl, subst (λ (x : List ℕ × ℕ). FirstHeaviest m x.0 x.1) (sym same) h.3)
 
 pub explore-requires : goal.explore-requires
-explore-requires g c = rw (c.empty.ensures.list, all-is g c) (open-start (g.S.Sheet.meaning c.args.sheet.now))
+explore-requires g c = rw (c.empty.ensures.list, all-is g (goal.at.explore-requires g c).After-first) (open-start (g.S.Sheet.meaning c.args.sheet.now))
 
 explored : (g : given.Over) (c : After-explore g) → Explored (g.S.Sheet.meaning c.args.sheet.now) [] (counting 0 (g.S.Sheet.meaning c.args.sheet.now).size) None (held_of c.explore.result)
 explored g c = rw (c.empty.ensures.list, all-is g (goal.at.unwrap-requires g c).After-first) at c.explore.ensures
