@@ -1,8 +1,8 @@
 -- Node after node: what is left gives the whole.
-use Rattle.std.proofs.Common.{◌≡◌, ℕ, zero, suc, ◌+◌, ◌-◌, ◌<◌, ◌≤◌, true, false, cond, sym, refl, ap, ◌∙◌, arith}
+use Rattle.std.proofs.Common.{◌≡◌, ℕ, zero, suc, ◌+◌, ◌-◌, ◌<◌, true, false, sym, refl, ap, ◌∙◌, arith}
 use Rattle.std.proofs.lemmas.Bool.{cond-true, cond-false}
 use Rattle.rules.specs.Bounds.{Number}
-use Rattle.runs.specs.Calls.{Progress, progress, stopped, further}
+use Rattle.runs.specs.Calls.{progress, stopped, further}
 use Rattle.runs.specs.State.{State, finished, node}
 use Rattle.sheets.specs.Meaning.{Meaning}
 

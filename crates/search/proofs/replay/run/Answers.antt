@@ -13,11 +13,11 @@ loop-call-preserved g c =
     let s = state_of c.loop-call.search in
     let t = state_of c.answer.new.search in
     let inv = c.loop-call.invariant in
-    let told : replied (answer_of c.in-ok-answer.field-0) t ≡ reply m number s (call_of c.call-item.result) =
-    c.in-ok-answer.ensures.value ∙ (λ i. reply (g.S.Sheet.meaning (inv.1 i)) (g.R.Rule.value (inv.2 i)) s (call_of c.call-item.result)) in
-    let same = c.in-ok-answer.ensures.same in (
-      ap (λ xs. answered m number c.args.calls.now xs t (c.loop-call.call-index + 1)) c.in-ok-push.ensures.items
-          ∙ answered-more m number c.args.calls.now (vec_items c.loop-call.answers) s t c.loop-call.call-index c.call-item.result c.in-ok-answer.field-0 c.loop-call-test.true c.call-item.is told
+    let told : replied (answer_of c.in_ok-answer.field-0) t ≡ reply m number s (call_of c.call-item.result) =
+    c.in_ok-answer.ensures.value ∙ (λ i. reply (g.S.Sheet.meaning (inv.1 i)) (g.R.Rule.value (inv.2 i)) s (call_of c.call-item.result)) in
+    let same = c.in_ok-answer.ensures.same in (
+      ap (λ xs. answered m number c.args.calls.now xs t (c.loop-call.call-index + 1)) c.in_ok-push.ensures.items
+          ∙ answered-more m number c.args.calls.now (vec_items c.loop-call.answers) s t c.loop-call.call-index c.call-item.result c.in_ok-answer.field-0 c.loop-call-test.true c.call-item.is told
           ∙ inv.0,
       same.0 ∙ inv.1,
       same.1 ∙ inv.2,
