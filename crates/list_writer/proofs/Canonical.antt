@@ -1,15 +1,14 @@
 -- An accepted list is the only one with its records.
-use Rattle.std.proofs.Common.{◌≡◌, ℕ, zero, suc, ◌+◌, ◌-◌, ◌*◌, ◌/◌, ◌%◌, ◌<◌, ◌≤◌, min, true, ◌&&◌, ◌||◌, eqb, List, [], ◌∷◌, ◌++◌, map, length, get_or, take, drop, replicate, sym, refl, ap, ◌∙◌, ap₂, ⊎_elim, arith, take-add}
+use Rattle.std.proofs.Common.{◌≡◌, ℕ, zero, suc, ◌+◌, ◌-◌, ◌*◌, ◌/◌, ◌%◌, ◌<◌, ◌≤◌, min, true, eqb, List, [], ◌∷◌, ◌++◌, map, length, get_or, take, drop, replicate, sym, refl, ap, ◌∙◌, ap₂, ⊎_elim, arith, take-add}
 use Rattle.std.specs.List.{flat_map, AllByRecursion as All}
 use Rattle.std.proofs.ByRecursion.{All-drop, All-map, All-take}
-use Rattle.std.proofs.lemmas.List.{append_assoc, drop-drop, drop-map, length-drop, length-map, length-take, take_all, take-append-drop, take-map, take-take}
+use Rattle.std.proofs.lemmas.List.{drop-drop, drop-map, length-drop, length-map, length-take, take_all, take-append-drop, take-map}
 use Rattle.std.proofs.lemmas.Bool.{and_parts, cases_lt, eqb-true}
 use Rattle.std.proofs.lemmas.Bool.Decides.{nat_tests}
 use Rattle.candidates.specs.Sets.{counting}
-use Rattle.candidates.proofs.Sets.{counting-append, length-counting}
+use Rattle.candidates.proofs.Sets.{length-counting}
 use Rattle.blocks.specs.Bytes.{low_first, number, part, all_zero, Bytes}
 use Rattle.blocks.specs.Format.{Record, block, block_at, block_count, blocks_for, check, content, packed, record_at, record_bytes, record_count, record_in, records_of, sealed, size_of}
-use Rattle.blocks.specs.Questions.{count_right, unused}
 use Rattle.blocks.proofs.Accepted.{Accepted, BlockRight, block-right, record-right}
 use Rattle.blocks.proofs.Numbers.{low_first-number}
 use Rattle.list_writer.proofs.Chunks.{get_d_part, joined-map, joined-parts, joined_same, key-part, points-part, record-part}

@@ -1,9 +1,9 @@
 -- The records of a sheet from a key on, one key at a time.
-use Rattle.std.proofs.Common.{◌≡◌, ℕ, ◌+◌, ◌-◌, ◌*◌, ◌<◌, ◌≤◌, true, false, List, [], ◌∷◌, map, length, filter, ap, ◌∙◌, ⊎_elim, arith}
+use Rattle.std.proofs.Common.{◌≡◌, ℕ, ◌+◌, ◌-◌, ◌*◌, ◌<◌, ◌≤◌, true, false, [], ◌∷◌, map, length, filter, ap, ◌∙◌, ⊎_elim, arith}
 use Rattle.std.proofs.lemmas.Bool.{cases_lt, cond-true, cond-false}
 use Rattle.candidates.specs.Sets.{counting}
 use Rattle.sheets.specs.Meaning.{Meaning}
-use Rattle.blocks.specs.Format.{Record, has_record, record_of, records_from}
+use Rattle.blocks.specs.Format.{has_record, record_of, records_from}
 use Rattle.blocks.proofs.Sums.{counting_more}
 
 module _ (m : Meaning) (key : ℕ) where

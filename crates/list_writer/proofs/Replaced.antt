@@ -1,8 +1,7 @@
 -- Bytes that are replaced one after another.
-use Rattle.std.proofs.Common.{◌≡◌, ℕ, zero, suc, ◌+◌, ◌-◌, ◌/◌, ◌%◌, ◌<◌, ◌≤◌, List, [], ◌∷◌, ◌++◌, length, take, drop, set, sym, refl, ap, ◌∙◌, ap₂, arith}
+use Rattle.std.proofs.Common.{◌≡◌, ℕ, suc, ◌+◌, ◌-◌, ◌/◌, ◌%◌, ◌<◌, ◌≤◌, List, [], ◌∷◌, ◌++◌, length, take, drop, set, sym, refl, ap, ◌∙◌, ap₂, arith}
 use Rattle.std.proofs.lemmas.List.{append_assoc, length-append, length-take-le, take_more_set, take-append-drop, take_at, drop_at, drop-drop, drop-set-lt}
 use Rattle.blocks.specs.Bytes.{low_first}
-use Rattle.blocks.proofs.Numbers.{length-low_first}
 use Rattle.list_writer.specs.Buffers.{replaced}
 
 -- what is before, and what is from the place on

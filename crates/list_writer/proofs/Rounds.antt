@@ -1,9 +1,9 @@
 -- The two round trips: what is written reads back as the sheet, and what is read is written as the same bytes.
-use Rattle.std.proofs.Common.{◌≡◌, ℕ, ◌+◌, ◌-◌, ◌<◌, ◌≤◌, Bool, true, false, cond, leb, List, ◌++◌, length, get_or, take, drop, Ok, Err, Result, sym, refl, ap, ◌∙◌, subst, ap₂, arith}
+use Rattle.std.proofs.Common.{◌≡◌, ℕ, ◌+◌, ◌-◌, ◌<◌, Bool, true, false, cond, leb, List, ◌++◌, length, get_or, take, drop, Ok, Err, Result, sym, refl, ap, ◌∙◌, subst, ap₂, arith}
 use Rattle.std.proofs.lemmas.List.{take_at}
 use Rattle.sheets.specs.Meaning.{Meaning, Lawful}
 use Rattle.blocks.specs.Bytes.{Bytes}
-use Rattle.blocks.specs.Format.{Record, look, meaning_of, packed, records, records_of, sheet_by, size_of, written}
+use Rattle.blocks.specs.Format.{look, meaning_of, packed, records, records_of, sheet_by, size_of, written}
 use Rattle.blocks.specs.Questions.{judged}
 use Rattle.blocks.proofs.Accepted.{accepted-from-judged, judged-from-accepted}
 use Rattle.list_writer.specs.declared.faults.CopyFault.{CopyFault}

@@ -1,11 +1,9 @@
 -- A written block, read again: every question about it is answered yes, and its records are those that were written.
-use Rattle.std.proofs.Common.{◌≡◌, ℕ, zero, suc, ◌+◌, ◌-◌, ◌*◌, ◌/◌, ◌%◌, ◌^◌, ◌<◌, ◌≤◌, true, List, [], ◌∷◌, ◌++◌, length, get_or, take, drop, replicate, sym, refl, ap, ◌∙◌, ap₂, ⊎_elim, mul-le-mul, arith}
-use Rattle.std.specs.List.{flat_map, AllByRecursion as All}
+use Rattle.std.proofs.Common.{◌≡◌, ℕ, zero, suc, ◌+◌, ◌-◌, ◌*◌, ◌^◌, ◌<◌, ◌≤◌, true, List, [], ◌∷◌, ◌++◌, length, get_or, take, drop, replicate, sym, refl, ap, ◌∙◌, ap₂, ⊎_elim, mul-le-mul, arith}
+use Rattle.std.specs.List.{flat_map}
 use Rattle.std.proofs.ByRecursion.{All-append, All-get_or}
 use Rattle.std.proofs.lemmas.List.{append_assoc, drop_at, drop-drop, get_or_past, length-replicate, take_all, take_at}
 use Rattle.std.proofs.lemmas.Bool.{cases_lt}
-use Rattle.candidates.specs.Sets.{counting}
-use Rattle.sheets.specs.Weights.{total}
 use Rattle.blocks.specs.Bytes.{low_first, number, part, all_zero, Bytes}
 use Rattle.blocks.specs.Format.{Record, record_bytes, content, weighed, check, sealed, record_in}
 use Rattle.blocks.specs.Questions.{unused}

@@ -1,9 +1,7 @@
 -- How long the parts of a list are.
-use Rattle.std.proofs.Common.{◌≡◌, ℕ, zero, suc, ◌+◌, ◌-◌, ◌*◌, ◌<◌, ◌≤◌, List, [], ◌∷◌, ◌++◌, length, get_or, take, drop, replicate, sym, refl, ap, ◌∙◌, ap₂, mul-suc, arith}
+use Rattle.std.proofs.Common.{◌≡◌, ℕ, zero, suc, ◌+◌, ◌-◌, ◌*◌, ◌≤◌, List, [], ◌∷◌, ◌++◌, length, drop, replicate, refl, ap, ap₂, mul-suc, arith}
 use Rattle.std.specs.List.{flat_map}
-use Rattle.std.proofs.lemmas.List.{length-append, length-replicate, length-take, length-drop, get_or_append_left}
-use Rattle.candidates.specs.Sets.{counting}
-use Rattle.sheets.specs.Weights.{total}
+use Rattle.std.proofs.lemmas.List.{length-append, length-replicate, length-take, get_or_append_left}
 use Rattle.blocks.specs.Bytes.{low_first, part}
 use Rattle.blocks.specs.Format.{Record, record_bytes, content, weighed, check, sealed, block_at}
 use Rattle.blocks.proofs.Numbers.{length-low_first}

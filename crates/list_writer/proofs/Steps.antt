@@ -1,5 +1,5 @@
 -- What one step of the writer does to the buffer.
-use Rattle.std.proofs.Common.{◌≡◌, ℕ, suc, ◌+◌, ◌-◌, ◌*◌, ◌/◌, ◌%◌, ◌<◌, ◌≤◌, min, List, [], ◌∷◌, ◌++◌, length, take, drop, replicate, sym, refl, ap, ◌∙◌, ap₂, ⊎_elim, arith, take-add}
+use Rattle.std.proofs.Common.{◌≡◌, ℕ, suc, ◌+◌, ◌-◌, ◌*◌, ◌/◌, ◌%◌, ◌<◌, ◌≤◌, min, List, [], ◌∷◌, ◌++◌, length, take, drop, replicate, sym, ap, ◌∙◌, ap₂, ⊎_elim, arith, take-add}
 use Rattle.std.specs.List.{flat_map}
 use Rattle.std.proofs.lemmas.List.{append_assoc, flat_map_more, length-append, length-take-le, length-drop, drop_all, drop-drop, take_all, take_rest, take-append-drop}
 use Rattle.std.proofs.lemmas.Bool.{cases_lt}
@@ -11,7 +11,7 @@ use Rattle.blocks.specs.Format.{Record, record_of, record_bytes, content, check,
 use Rattle.blocks.proofs.Numbers.{length-low_first, low_first-zero}
 use Rattle.list_writer.specs.Buffers.{replaced}
 use Rattle.list_writer.proofs.Replaced.{drop-replaced, replaced-then}
-use Rattle.list_writer.proofs.Sizes.{length-joined, length-record_bytes, length-block_at, length-content, check-append}
+use Rattle.list_writer.proofs.Sizes.{length-joined, length-record_bytes, length-block_at, check-append}
 
 pub replaced-none : (place : ℕ) (bytes : List ℕ) → bytes ≡ replaced place [] bytes
 unfolding replaced

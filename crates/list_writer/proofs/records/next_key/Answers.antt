@@ -1,4 +1,4 @@
-use Rattle.std.proofs.Common.{◌≡◌, ◌*◌, ◌<◌, length, sym, ap, ◌∙◌, arith}
+use Rattle.std.proofs.Common.{◌≡◌, length, sym, ap, ◌∙◌, arith}
 use Rattle.blocks.specs.Format.{records_from}
 use Rattle.list_writer.proofs.Keys.{records_from-yes, records_from-no, some-inside}
 use Rattle.list_writer.proofs.records.next_key.Goals as goal

@@ -1,4 +1,4 @@
-use Rattle.std.proofs.Common.{◌≡◌, ◌+◌, ◌<◌, ◌++◌, length, take, drop, sym, ap, ◌∙◌, arith}
+use Rattle.std.proofs.Common.{◌+◌, ◌++◌, take, drop, sym, ap, ◌∙◌, arith}
 use Rattle.blocks.specs.Bytes.{low_first}
 use Rattle.blocks.proofs.Numbers.{length-low_first}
 use Rattle.list_writer.specs.Buffers.{replaced}

@@ -1,4 +1,4 @@
-use Rattle.std.proofs.Common.{◌≡◌, ◌+◌, ◌-◌, ◌++◌, length, take, drop}
+use Rattle.std.proofs.Common.{◌≡◌, ◌+◌, ◌-◌, ◌++◌, take, drop}
 use Rattle.blocks.specs.Bytes.{low_first}
 use Rattle.list_writer.proofs.writing.put.Given as goal
 

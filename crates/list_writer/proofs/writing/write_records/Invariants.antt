@@ -1,4 +1,4 @@
-use Rattle.std.proofs.Common.{◌≡◌, length, take, drop}
+use Rattle.std.proofs.Common.{◌≡◌, take, drop}
 use Rattle.std.specs.List.{flat_map}
 use Rattle.blocks.specs.Format.{records_from, record_bytes}
 use Rattle.list_writer.specs.Buffers.{replaced}

@@ -1,5 +1,5 @@
 use Rattle.std.proofs.Common.{◌≡◌, sym, ap, ◌∙◌, subst}
-use Rattle.sheets.specs.Meaning.{Meaning, Lawful}
+use Rattle.sheets.specs.Meaning.{Lawful}
 use Rattle.dense.specs.Dense.{meaning_by}
 use Rattle.dense.proofs.Copied.{copied}
 use Rattle.dense.proofs.sheet.DenseSheet.of.Given as given
@@ -13,7 +13,7 @@ alike g c =
     ∙ copied m (g.S.Sheet.lawful c.args.sheet.now) c.rows_of.result c.square_of.result c.rows_of.ensures c.square_of.ensures
 
 pub invariant_of-result : goal.invariant_of-result
-invariant_of-result g c = (∣ subst Lawful (sym (alike g c)) (g.S.Sheet.lawful c.args.sheet.now) ∣₁, tt)
+invariant_of-result g c = record { laws = ∣ subst Lawful (sym (alike g c)) (g.S.Sheet.lawful c.args.sheet.now) ∣₁ }
 
 pub returns : goal.returns
 returns g c = alike g (goal.at.returns g c).After-square_of
