@@ -11,7 +11,7 @@ by-requires g c =
     let m = g.S.Sheet.meaning c.args.sheet in
     let number = g.R.Rule.value c.args.rule in
     let told : map answer_of c.as_slice-2.result.now ≡ answers m number (asked c.args.grants 1000000 256) =
-    ap (map answer_of) c.as_slice-2.ensures.value ∙ c.in-ok-answers.ensures.answers ∙ ap (λ xs. answers m number (map call_of xs)) c.as_slice.ensures.value ∙ ap (answers m number) c.in-ok-calls.ensures in
+    ap (map answer_of) c.as_slice-2.ensures.value ∙ c.in_ok-answers.ensures.answers ∙ ap (λ xs. answers m number (map call_of xs)) c.as_slice.ensures.value ∙ ap (answers m number) c.in_ok-calls.ensures in
     omega (arith, ap all_nodes told, asked-limit m number c.args.grants 1000000 256 (omega arith))
 
 pub returns : goal.returns
@@ -19,5 +19,5 @@ returns g c =
     let m = g.S.Sheet.meaning c.args.sheet in
     let number = g.R.Rule.value c.args.rule in
     let told : map answer_of c.as_slice-2.result.now ≡ answers m number (asked c.args.grants 1000000 256) =
-    ap (map answer_of) c.as_slice-2.ensures.value ∙ c.in-ok-answers.ensures.answers ∙ ap (λ xs. answers m number (map call_of xs)) c.as_slice.ensures.value ∙ ap (answers m number) c.in-ok-calls.ensures in
-    searched m (g.S.Sheet.lawful c.args.sheet) number c.in-ok-answers.ensures.promise c.args.grants c.by.result (c.by.ensures ∙ ap (summary nothing) told)
+    ap (map answer_of) c.as_slice-2.ensures.value ∙ c.in_ok-answers.ensures.answers ∙ ap (λ xs. answers m number (map call_of xs)) c.as_slice.ensures.value ∙ ap (answers m number) c.in_ok-calls.ensures in
+    searched m (g.S.Sheet.lawful c.args.sheet) number c.in_ok-answers.ensures.promise c.args.grants c.by.result (c.by.ensures ∙ ap (summary nothing) told)

@@ -7,11 +7,11 @@ use Rattle.reports.proofs.pairing.paired.Goals as goal
 pub returns : goal.returns
 returns c =
     let text = c.args.text.now in
-    let size = c.in-ok-table.table.size in
+    let size = c.in_ok-table.table.size in
     record {
       size = size;
       entries = c.as_slice.result.now;
-      holds = subst (λ (es : List ℕ). read text ≡ Ok (size ∷ es)) (sym c.as_slice.ensures.value) c.in-ok-table.ensures.value;
-      accepted = c.in-ok-sheet.ensures.0;
-      reports = subst (λ (m : Meaning). Reports m c.in-ok-report.report) c.in-ok-sheet.ensures.1 c.in-ok-report.ensures;
+      holds = subst (λ (es : List ℕ). read text ≡ Ok (size ∷ es)) (sym c.as_slice.ensures.value) c.in_ok-table.ensures.value;
+      accepted = c.in_ok-sheet.ensures.0;
+      reports = subst (λ (m : Meaning). Reports m c.in_ok-report.report) c.in_ok-sheet.ensures.1 c.in_ok-report.ensures;
     }

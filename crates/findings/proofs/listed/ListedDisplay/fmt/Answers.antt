@@ -3,4 +3,4 @@ use Rattle.findings.proofs.Listing.{sofar-more}
 use Rattle.findings.proofs.listed.ListedDisplay.fmt.Goals as goal
 
 pub loop-v-preserved : goal.loop-v-preserved
-loop-v-preserved g c = sofar-more _ _ _ _ _ c.loop-v.invariant _ _ c.in-Some.ensures.steps _ (λ plain. c.in-ok-write.ensures.shows plain refl)
+loop-v-preserved g c = sofar-more _ _ _ _ _ c.loop-v.invariant _ _ c.in-Some.ensures.steps _ (λ plain. c.in_ok-write.ensures.writes plain refl)
