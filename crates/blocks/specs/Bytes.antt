@@ -1,6 +1,6 @@
 -- Numbers as bytes, low byte first.
 use Rattle.std.specs.Prelude.{ℕ, zero, suc, ◌+◌, ◌*◌, ◌/◌, ◌%◌, ◌<◌, Bool, true, ◌&&◌, List, [], ◌∷◌, take, drop, ◌==◌}
-use Rattle.std.specs.List.{AllByRecursion as All}
+use Rattle.std.specs.List.{AllByRecursion}
 
 -- x in so many bytes, low byte first
 unfoldable pub low_first : ℕ → ℕ → List ℕ
@@ -22,4 +22,4 @@ all_zero (b ∷ bs) = b == 0 && all_zero bs
 
 -- each is a byte
 abbrev pub Bytes : List ℕ → Type 0
-Bytes bs = All (λ b. b < 256) bs
+Bytes bs = AllByRecursion (λ b. b < 256) bs

@@ -1,6 +1,6 @@
 -- An accepted list is the only one with its records.
 use Rattle.std.proofs.Common.{◌≡◌, ℕ, zero, suc, ◌+◌, ◌-◌, ◌*◌, ◌/◌, ◌%◌, ◌<◌, ◌≤◌, min, true, eqb, List, [], ◌∷◌, ◌++◌, map, length, get_or, take, drop, replicate, sym, refl, ap, ◌∙◌, ap₂, ⊎_elim, arith, take-add}
-use Rattle.std.specs.List.{flat_map, AllByRecursion as All}
+use Rattle.std.specs.List.{flat_map, AllByRecursion}
 use Rattle.std.proofs.ByRecursion.{All-drop, All-map, All-take}
 use Rattle.std.proofs.lemmas.List.{drop-drop, drop-map, length-drop, length-map, length-take, take_all, take-append-drop, take-map}
 use Rattle.std.proofs.lemmas.Bool.{and_parts, cases_lt, eqb-true}
@@ -54,7 +54,7 @@ head-split (a ∷ (b ∷ [])) long = absurd (omega arith)
 head-split (a ∷ (b ∷ (c ∷ []))) long = absurd (omega arith)
 head-split (a ∷ (b ∷ (c ∷ (d ∷ bs)))) long = refl
 
-all-counting : (P : ℕ → Type 0) (a n : ℕ) → ((i : ℕ) → a ≤ i → i < a + n → P i) → All P (counting a n)
+all-counting : (P : ℕ → Type 0) (a n : ℕ) → ((i : ℕ) → a ≤ i → i < a + n → P i) → AllByRecursion P (counting a n)
 all-counting P a zero each = tt
 all-counting P a (suc n) each =
     (each a (omega arith) (omega arith), all-counting P (suc a) n (λ i low high. each i (omega arith) (omega arith)))

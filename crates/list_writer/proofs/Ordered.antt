@@ -1,6 +1,6 @@
 -- Records in order: each of a pair of the sheet, with keys that rise.
 use Rattle.std.proofs.Common.{◌≡◌, ℕ, zero, suc, ◌+◌, ◌/◌, ◌%◌, ◌<◌, ◌≤◌, eqb, List, [], ◌∷◌, map, length, get_or, Some, None, sym, refl, ap, ◌∙◌, subst, ap₂, ⊎_elim, arith}
-use Rattle.std.specs.List.{AllByRecursion as All}
+use Rattle.std.specs.List.{AllByRecursion}
 use Rattle.std.proofs.lemmas.Bool.{cases_eq, cases_order, cond-true, cond-false, eq-eqb, ne_eqb}
 use Rattle.candidates.specs.Sets.{counting}
 use Rattle.blocks.specs.Format.{Record, look}
@@ -17,7 +17,7 @@ pub record Right (n : ℕ) (r : Record) : Type 0 where
 
 pub record Ordered (n : ℕ) (rs : List Record) : Type 0 where
   pub rise : Rise 0 rs
-  pub right : All (Right n) rs
+  pub right : AllByRecursion (Right n) rs
 
 rise-later : (a b : ℕ) (rs : List Record) → b ≤ a → Rise a rs → Rise b rs
 rise-later a b [] less up = tt
@@ -78,7 +78,7 @@ same-from-look a (x ∷ xs) (y ∷ ys) up also same =
     (cases_order x.key y.key)
 
 -- what is found among records in order is right
-pub look-right : (n key p : ℕ) (rs : List Record) → All (Right n) rs → look key rs ≡ Some p → Right n (record { key = key; points = p })
+pub look-right : (n key p : ℕ) (rs : List Record) → AllByRecursion (Right n) rs → look key rs ≡ Some p → Right n (record { key = key; points = p })
 unfolding look
 look-right n key p [] all found = absurd (some-none p (sym found))
 look-right n key p (r ∷ rs) all found =
