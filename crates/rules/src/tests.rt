@@ -7,37 +7,26 @@ use crate::rule::Rule;
 use candidates::set::CandidateSet;
 use sheets::sheet::Sheet;
 use sheets::table::TableSheet;
-use std::process::Abort;
 use std::test::Fail;
 
 // Four candidates, of which 1 and 2 don't fit.
 const SMALL: [u16; 6] = [5, 7, 65535, 1, 9, 4];
 
-fn check_numbers<S: Sheet>(
-    rt: &impl Abort,
-    sheet: &S,
-    c: CandidateSet,
-    s: CandidateSet,
-    flat: u64,
-    colour: u64,
-    path: u64,
-) {
-    assert_eq!(rt; Flat.number(sheet, c, s), flat);
-    assert_eq!(rt; Colour.number(sheet, c, s), colour);
-    assert_eq!(rt; Path.number(sheet, c, s), path);
+// The flat, the colour and the path number.
+fn numbers_of<S: Sheet>(sheet: &S, c: CandidateSet, s: CandidateSet) -> (u64, u64, u64) {
+    (
+        Flat.number(sheet, c, s),
+        Colour.number(sheet, c, s),
+        Path.number(sheet, c, s),
+    )
 }
 
 #[test]
 fn numbers(rt: HostRuntime) -> Result<(), Fail> {
     let sheet = TableSheet::new(4, &SMALL)?;
-    check_numbers(
-        &rt,
-        &sheet,
-        CandidateSet::empty(),
-        CandidateSet::first(4),
-        26,
-        15,
-        21,
+    assert_eq!(rt;
+        numbers_of(&sheet, CandidateSet::empty(), CandidateSet::first(4)),
+        (26, 15, 21)
     );
     Ok(())
 }
@@ -46,7 +35,7 @@ fn numbers(rt: HostRuntime) -> Result<(), Fail> {
 fn overlapping_sets(rt: HostRuntime) -> Result<(), Fail> {
     let sheet = TableSheet::new(4, &SMALL)?;
     let all = CandidateSet::first(4);
-    check_numbers(&rt, &sheet, all, all, 78, 58, 60);
+    assert_eq!(rt; numbers_of(&sheet, all, all), (78, 58, 60));
     Ok(())
 }
 
@@ -54,14 +43,9 @@ fn overlapping_sets(rt: HostRuntime) -> Result<(), Fail> {
 fn marks_that_are_no_candidates(rt: HostRuntime) -> Result<(), Fail> {
     let sheet = TableSheet::new(4, &SMALL)?;
     let marks = CandidateSet::first(256);
-    check_numbers(
-        &rt,
-        &sheet,
-        marks.minus(CandidateSet::first(4)),
-        marks,
-        26,
-        15,
-        21,
+    assert_eq!(rt;
+        numbers_of(&sheet, marks.minus(CandidateSet::first(4)), marks),
+        (26, 15, 21)
     );
     Ok(())
 }
@@ -69,14 +53,9 @@ fn marks_that_are_no_candidates(rt: HostRuntime) -> Result<(), Fail> {
 #[test]
 fn no_candidates(rt: HostRuntime) -> Result<(), Fail> {
     let sheet = TableSheet::new(4, &SMALL)?;
-    check_numbers(
-        &rt,
-        &sheet,
-        CandidateSet::first(4),
-        CandidateSet::empty(),
-        0,
-        0,
-        0,
+    assert_eq!(rt;
+        numbers_of(&sheet, CandidateSet::first(4), CandidateSet::empty()),
+        (0, 0, 0)
     );
     Ok(())
 }
@@ -101,6 +80,9 @@ fn heaviest_sheet(rt: HostRuntime) -> Result<(), Fail> {
     let entries = [65534; 32640];
     let sheet = TableSheet::new(256, &entries)?;
     let all = CandidateSet::first(256);
-    check_numbers(&rt, &sheet, all, all, 6417089280, 6417089280, 6417089280);
+    assert_eq!(rt;
+        numbers_of(&sheet, all, all),
+        (6417089280, 6417089280, 6417089280)
+    );
     Ok(())
 }
