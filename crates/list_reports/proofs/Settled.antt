@@ -3,11 +3,11 @@ use Rattle.std.proofs.Common.{◌≡◌, ℕ, List, ◌++◌, Ok, Err, codes, de
 use Rattle.blocks.specs.Faults.{line, program_refusal}
 use Rattle.blocks.specs.declared.faults.ProgramFault.{ProgramFault}
 use Rattle.findings.specs.Lines.{listed, yes_or_no}
-use Rattle.findings.specs.Summaries.{Summary, summary_of}
+use Rattle.findings.specs.Summaries.{Summary}
 use Rattle.list_reports.specs.declared.report.Report.{Report}
 use Rattle.list_reports.specs.Lines.{report_lines}
 use Rattle.list_reports.specs.Reports.{Reports}
-use Rattle.list_reports.specs.Paired.{Paired, Settled, printed}
+use Rattle.list_reports.specs.Paired.{Settled}
 use Rattle.sheets.specs.Meaning.{Meaning}
 
 -- the lines of a report, by its size and the summary of what was found
