@@ -1,6 +1,6 @@
 -- An offer to which every question is answered yes is a clique.
 use Rattle.std.proofs.Common.{◌≡◌, ℕ, suc, Bool, true, false, cond, eqb, List, [], ◌∷◌, ◌++◌, Some, None, sym, refl, ◌∙◌, subst, ⊎_elim, arith}
-use Rattle.std.specs.List.{AllByRecursion as All}
+use Rattle.std.specs.List.{AllByRecursion}
 use Rattle.std.proofs.lemmas.Bool.{and_parts, or_cases, eqb-true, leb-true, ltb-true}
 use Rattle.std.proofs.lemmas.Bool.Decides.{nat_tests}
 use Rattle.candidates.specs.Sets.{is_in, From}
@@ -10,11 +10,11 @@ use Rattle.sheets.proofs.Cliques.{clique-none, clique-cons}
 use Rattle.runs.specs.Calls.{Question, first_no, entry_questions, offer_questions}
 use Rattle.runs.proofs.Cases.{never}
 
-all_yes : (qs more : List Question) → first_no (qs ++ more) ≡ None → All (λ q. q.yes ≡ true) qs × (first_no more ≡ None)
+all_yes : (qs more : List Question) → first_no (qs ++ more) ≡ None → AllByRecursion (λ q. q.yes ≡ true) qs × (first_no more ≡ None)
 all_yes [] more e = (tt, e)
 all_yes (q ∷ qs) more e = let rest = all_yes qs more in by q.yes rest e
   where
-    by : (b : Bool) → (first_no (qs ++ more) ≡ None → All (λ q. q.yes ≡ true) qs × (first_no more ≡ None)) → cond b (first_no (qs ++ more)) (Some q.no) ≡ None → ((b ≡ true) × All (λ q. q.yes ≡ true) qs) × (first_no more ≡ None)
+    by : (b : Bool) → (first_no (qs ++ more) ≡ None → AllByRecursion (λ q. q.yes ≡ true) qs × (first_no more ≡ None)) → cond b (first_no (qs ++ more)) (Some q.no) ≡ None → ((b ≡ true) × AllByRecursion (λ q. q.yes ≡ true) qs) × (first_no more ≡ None)
     by true rest e = ((refl, (rest e).0), (rest e).1)
     by false rest e = never (cc)
 
