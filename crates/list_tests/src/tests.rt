@@ -5,7 +5,6 @@ use list_writer::copies::copy_list;
 use list_writer::writing::write_list;
 use sheets::table::TableSheet;
 use std::alloc::{AllocError, Global};
-use std::process::Abort;
 use std::test::Fail;
 
 fn put(bytes: &mut [u8; 1024], place: usize, byte: u8) {
@@ -65,16 +64,15 @@ fn line(heap: Global, bytes: &[u8]) -> Result<String, AllocError> {
     }
 }
 
-fn says(rt: &impl Abort, heap: Global, changes: &[(usize, u8)], text: &str) -> Result<(), Fail> {
-    let bytes = list(changes);
-    let seen = line(heap, &bytes)?;
-    assert_eq!(rt; seen.as_str(), text);
-    Ok(())
+// What is said of the list of two blocks, with some of its bytes changed.
+fn said(heap: Global, changes: &[(usize, u8)]) -> Result<String, AllocError> {
+    line(heap, &list(changes))
 }
 
 #[test]
 fn two_blocks_by_the_rules(rt: HostRuntime) -> Result<(), Fail> {
-    says(&rt, rt.alloc(), &[], "accepted")?;
+    let seen = said(rt.alloc(), &[])?;
+    assert_eq!(rt; seen.as_str(), "accepted");
     let entries = [3u16; 136];
     let sheet = TableSheet::new(17, &entries)?;
     let mut buffer = [7u8; 1024];
@@ -94,135 +92,68 @@ fn questions_put_to_one_block(rt: HostRuntime) -> Result<(), Fail> {
     bytes[1020] = bytes[1020].wrapping_add(1);
     let seen = line(heap, &bytes)?;
     assert_eq!(rt; seen.as_str(), "refused 12 layer block block 1 record -");
-    says(
-        &rt,
-        heap,
-        &[(512, 2), (515, 15)],
-        "refused 13 layer block block 1 record -",
-    )?;
-    says(
-        &rt,
-        heap,
-        &[(515, 15), (514, 0)],
-        "refused 14 layer list block 1 record -",
-    )?;
+    let seen = said(heap, &[(512, 2), (515, 15)])?;
+    assert_eq!(rt; seen.as_str(), "refused 13 layer block block 1 record -");
+    let seen = said(heap, &[(515, 15), (514, 0)])?;
+    assert_eq!(rt; seen.as_str(), "refused 14 layer list block 1 record -");
     // One record less, so that its bytes are unused and not zero.
-    says(
-        &rt,
-        heap,
-        &[(2, 125)],
-        "refused 15 layer block block 0 record -",
-    )?;
-    says(
-        &rt,
-        heap,
-        &[(514, 0)],
-        "refused 15 layer block block 1 record -",
-    )
+    let seen = said(heap, &[(2, 125)])?;
+    assert_eq!(rt; seen.as_str(), "refused 15 layer block block 0 record -");
+    let seen = said(heap, &[(514, 0)])?;
+    assert_eq!(rt; seen.as_str(), "refused 15 layer block block 1 record -");
+    Ok(())
 }
 
 #[test]
 fn limits_of_a_block(rt: HostRuntime) -> Result<(), Fail> {
     let heap = rt.alloc();
-    says(
-        &rt,
-        heap,
-        &[(513, 1)],
-        "refused 13 layer block block 1 record -",
-    )?;
-    says(
-        &rt,
-        heap,
-        &[(2, 127)],
-        "refused 15 layer block block 0 record -",
-    )?;
-    says(
-        &rt,
-        heap,
-        &[(514, 127)],
-        "refused 15 layer block block 1 record -",
-    )?;
-    says(
-        &rt,
-        heap,
-        &[(514, 255)],
-        "refused 15 layer block block 1 record -",
-    )?;
-    says(
-        &rt,
-        heap,
-        &[(514, 9)],
-        "refused 16 layer block block 1 record -",
-    )?;
+    let seen = said(heap, &[(513, 1)])?;
+    assert_eq!(rt; seen.as_str(), "refused 13 layer block block 1 record -");
+    let seen = said(heap, &[(2, 127)])?;
+    assert_eq!(rt; seen.as_str(), "refused 15 layer block block 0 record -");
+    let seen = said(heap, &[(514, 127)])?;
+    assert_eq!(rt; seen.as_str(), "refused 15 layer block block 1 record -");
+    let seen = said(heap, &[(514, 255)])?;
+    assert_eq!(rt; seen.as_str(), "refused 15 layer block block 1 record -");
+    let seen = said(heap, &[(514, 9)])?;
+    assert_eq!(rt; seen.as_str(), "refused 16 layer block block 1 record -");
     // A pair in block 0 that is none is asked after the last byte of block 1.
-    says(
-        &rt,
-        heap,
-        &[(9, 0), (1019, 1)],
-        "refused 16 layer block block 1 record -",
-    )
+    let seen = said(heap, &[(9, 0), (1019, 1)])?;
+    assert_eq!(rt; seen.as_str(), "refused 16 layer block block 1 record -");
+    Ok(())
 }
 
 // Two faults in one record, or in two that follow each other.
 #[test]
 fn questions_put_to_records(rt: HostRuntime) -> Result<(), Fail> {
     let heap = rt.alloc();
-    says(
-        &rt,
-        heap,
-        &[(8, 1), (9, 0)],
-        "refused 17 layer list block 0 record 1",
-    )?;
-    says(
-        &rt,
-        heap,
-        &[(9, 1), (10, 255), (11, 255)],
-        "refused 18 layer list block 0 record 1",
-    )?;
-    says(
-        &rt,
-        heap,
-        &[(6, 255), (7, 255), (9, 0)],
-        "refused 19 layer list block 0 record 0",
-    )?;
+    let seen = said(heap, &[(8, 1), (9, 0)])?;
+    assert_eq!(rt; seen.as_str(), "refused 17 layer list block 0 record 1");
+    let seen = said(heap, &[(9, 1), (10, 255), (11, 255)])?;
+    assert_eq!(rt; seen.as_str(), "refused 18 layer list block 0 record 1");
+    let seen = said(heap, &[(6, 255), (7, 255), (9, 0)])?;
+    assert_eq!(rt; seen.as_str(), "refused 19 layer list block 0 record 0");
     // The pair 4 and 16 after 5 and 16.
-    says(
-        &rt,
-        heap,
-        &[(516, 4)],
-        "refused 18 layer list block 1 record 0",
-    )
+    let seen = said(heap, &[(516, 4)])?;
+    assert_eq!(rt; seen.as_str(), "refused 18 layer list block 1 record 0");
+    Ok(())
 }
 
 // The last record is at bytes 552 to 555.
 #[test]
 fn limits_of_a_record(rt: HostRuntime) -> Result<(), Fail> {
     let heap = rt.alloc();
-    says(
-        &rt,
-        heap,
-        &[(553, 17)],
-        "refused 17 layer list block 1 record 9",
-    )?;
-    says(
-        &rt,
-        heap,
-        &[(552, 16)],
-        "refused 17 layer list block 1 record 9",
-    )?;
-    says(
-        &rt,
-        heap,
-        &[(552, 14)],
-        "refused 18 layer list block 1 record 9",
-    )?;
-    says(
-        &rt,
-        heap,
-        &[(554, 255), (555, 255)],
-        "refused 19 layer list block 1 record 9",
-    )?;
-    says(&rt, heap, &[(554, 254), (555, 255)], "accepted")
+    let seen = said(heap, &[(553, 17)])?;
+    assert_eq!(rt; seen.as_str(), "refused 17 layer list block 1 record 9");
+    let seen = said(heap, &[(552, 16)])?;
+    assert_eq!(rt; seen.as_str(), "refused 17 layer list block 1 record 9");
+    let seen = said(heap, &[(552, 14)])?;
+    assert_eq!(rt; seen.as_str(), "refused 18 layer list block 1 record 9");
+    let seen = said(heap, &[(554, 255), (555, 255)])?;
+    assert_eq!(rt; seen.as_str(), "refused 19 layer list block 1 record 9");
+    let seen = said(heap, &[(554, 254), (555, 255)])?;
+    assert_eq!(rt; seen.as_str(), "accepted");
+    Ok(())
 }
 
 fn number(bytes: &[u8]) -> u16 {
@@ -239,18 +170,6 @@ fn lengths_of_a_list(rt: HostRuntime) {
     assert_eq!(rt; number(&bytes[0..512]), 0);
     assert_eq!(rt; number(&bytes[0..133120]), 15);
     assert_eq!(rt; number(&bytes[0..133632]), 11);
-}
-
-// A copy has the same bytes, and the byte beyond them stays.
-fn copied(rt: &impl Abort, bytes: &[u8]) -> Result<(), Fail> {
-    let mut buffer = [7u8; 133121];
-    let Ok(count) = copy_list(bytes, &mut buffer) else {
-        return Err(Fail::new("not copied"));
-    };
-    assert_eq!(rt; count, 133120);
-    assert_eq!(rt; &buffer[0..133120], bytes);
-    assert_eq!(rt; buffer[133120], 7);
-    Ok(())
 }
 
 // With 256 candidates that all fit there are 32,640 records: 259 full blocks, and 6 records in the last.
@@ -274,5 +193,13 @@ fn the_longest_list(rt: HostRuntime) -> Result<(), Fail> {
         &[3u8, 1, 6, 255, 249, 255, 0, 0][0..8]
     );
     assert_eq!(rt; buffer[133120], 7);
-    copied(&rt, &buffer[0..133120])
+    // A copy has the same bytes, and the byte beyond them stays.
+    let mut copy = [7u8; 133121];
+    let Ok(copied) = copy_list(&buffer[0..133120], &mut copy) else {
+        return Err(Fail::new("not copied"));
+    };
+    assert_eq!(rt; copied, 133120);
+    assert_eq!(rt; &copy[0..133120], &buffer[0..133120]);
+    assert_eq!(rt; copy[133120], 7);
+    Ok(())
 }
