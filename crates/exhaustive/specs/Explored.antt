@@ -3,7 +3,7 @@ use Rattle.std.specs.Prelude.{◌≡◌, ℕ, ◌<◌, ◌≤◌, List, Some, No
 use Rattle.std.specs.Option.{option_map}
 use Rattle.candidates.specs.Members.{members}
 use Rattle.candidates.specs.Order.{Earlier}
-use Rattle.exhaustive.specs.declared.pairing.Pairing.{Pairing}
+use Rattle.sheets.specs.declared.pairing.Pairing.{Pairing}
 use Rattle.sheets.specs.Frames.{Comes}
 use Rattle.sheets.specs.Meaning.{Meaning}
 use Rattle.sheets.specs.Weights.{weight}

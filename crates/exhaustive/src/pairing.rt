@@ -7,15 +7,9 @@ ghost use Rattle.sheets.specs.Heaviest.{FirstHeaviest};
 
 use crate::frame::Frame;
 use candidates::set::CandidateSet;
-use sheets::sheet::{Points, Sheet};
+use sheets::pairing::Pairing;
+use sheets::sheet::Sheet;
 use sheets::sums::weight;
-
-// A set of candidates and its points.
-#[derive(Clone, Copy)]
-pub struct Pairing {
-    pub set: CandidateSet,
-    pub points: Points,
-}
 
 // What is held after one more set: it gives way only to a heavier one.
 fn heavier<S: Sheet>(sheet: &S, held: Option<Pairing>, set: CandidateSet) -> Option<Pairing>

@@ -6,11 +6,12 @@ ghost use Rattle.reports.specs.Reports.{Reports};
 
 use crate::found::{Found, search_for};
 use crate::listed::Listed;
-use exhaustive::pairing::{Pairing, best_pairing};
+use exhaustive::pairing::best_pairing;
 use rules::colour::Colour;
 use rules::lesser::Lesser;
 use rules::numbers::Numbers;
 use rules::path::Path;
+use sheets::pairing::Pairing;
 use sheets::sheet::Sheet;
 use std::alloc::{AllocError, Global};
 use std::fmt;

@@ -2,13 +2,14 @@
 use crate::made::{made_entries, made_set};
 use crate::random::Random;
 use candidates::set::CandidateSet;
-use exhaustive::pairing::{Pairing, best_pairing};
+use exhaustive::pairing::best_pairing;
 use rules::colour::Colour;
 use rules::flat::Flat;
 use rules::lesser::Lesser;
 use rules::path::Path;
 use rules::rule::Rule;
 use search::search::Search;
+use sheets::pairing::Pairing;
 use sheets::sheet::Sheet;
 use sheets::table::TableSheet;
 use std::alloc::{AllocError, Global};

@@ -2,7 +2,7 @@ use Rattle.std.proofs.Common.{◌≡◌, ℕ, min, List, [], is_some, Some, None
 use Rattle.std.proofs.lemmas.Bool.{false≢true}
 use Rattle.candidates.specs.Members.{members}
 use Rattle.candidates.specs.Sets.{counting}
-use Rattle.exhaustive.specs.declared.pairing.Pairing.{Pairing}
+use Rattle.sheets.specs.declared.pairing.Pairing.{Pairing}
 use Rattle.exhaustive.specs.Explored.{Explored, held_of}
 use Rattle.exhaustive.proofs.Frames.{explored-start}
 use Rattle.exhaustive.proofs.pairing.best_pairing.Given as given
