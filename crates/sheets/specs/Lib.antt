@@ -6,3 +6,4 @@ pub mod Heaviest
 pub mod Refusals
 pub mod Tables
 pub mod TableLaws
+pub mod TableSheets

@@ -2,9 +2,8 @@
 use Rattle.std.specs.Prelude.{◌≡◌, ℕ, ◌<◌, ◌≤◌, min, max, true, cond, ◌&&◌, List, nat_lt}
 use Rattle.std.proofs.Common.{arith}
 use Rattle.std.proofs.lemmas.Bool.{and_left, and_right, and_parts, le-ltb, ltb-true, cond-false, cond_both}
-use Rattle.sheets.specs.declared.table.TableSheet.{TableSheet}
 use Rattle.sheets.specs.Meaning.{Lawful}
-use Rattle.sheets.specs.Tables.{entry, table_fit, table, meaning_of}
+use Rattle.sheets.specs.Tables.{entry, table_fit, table}
 
 entry-both : (xs : List ℕ) (u v : ℕ) → entry xs u v ≡ entry xs v u
 entry-both xs u v =
@@ -23,7 +22,7 @@ below_none n xs u v fit =
     let inside = (and_parts (nat_lt (min u v) (max u v)) (nat_lt (max u v) n && nat_lt (entry xs u v) 65535) fit).1 in
     ltb-true (entry xs u v) 65535 (and_parts (nat_lt (max u v) n) (nat_lt (entry xs u v) 65535) inside).1
 
-table-laws : (n : ℕ) (xs : List ℕ) → 1 ≤ n → n ≤ 256 → Lawful (table n xs)
+pub table-laws : (n : ℕ) (xs : List ℕ) → 1 ≤ n → n ≤ 256 → Lawful (table n xs)
 table-laws n xs some most = record {
   least = some;
   most = most;
@@ -34,6 +33,3 @@ table-laws n xs some most = record {
   outside = λ u v past. and_right (nat_lt (min u v) (max u v)) (nat_lt (max u v) n && nat_lt (entry xs u v) 65535) (and_left (nat_lt (max u v) n) (nat_lt (entry xs u v) 65535) (le-ltb (max u v) n (omega arith)));
   highest = λ u v. cond_both (table_fit n xs u v) (entry xs u v) 0 (λ p. p ≤ 65534) (λ fit. omega (arith, below_none n xs u v fit)) (λ _. omega arith);
 }
-
-pub table-lawful : (s : TableSheet) → Lawful (meaning_of s)
-table-lawful s = table-laws (max 1 (min s.size 256)) s.entries.now (omega arith) (omega arith)

@@ -1,8 +1,7 @@
--- A table sheet: an entry for each two candidates, and when a table is refused.
+-- A table: an entry for each two candidates, and when a table is refused.
 use Rattle.std.specs.Prelude.{ℕ, ◌+◌, ◌-◌, ◌*◌, ◌/◌, min, max, Bool, cond, ◌&&◌, List, [], ◌∷◌, length, Result, ◌==◌, nat_le, nat_lt, slice_index_or}
 use Rattle.sheets.specs.declared.table.TableFault.{TableFault}
 use Rattle.sheets.specs.declared.table.TableFault.TheVariants.{Size, Entries}
-use Rattle.sheets.specs.declared.table.TableSheet.{TableSheet}
 use Rattle.sheets.specs.Meaning.{Meaning}
 use Rattle.sheets.specs.Refusals.{first_no}
 
@@ -29,7 +28,3 @@ table_judged n xs = first_no (((nat_le 1 n && nat_le n 256), Size) ∷ ((length 
 abbrev pub table_number : TableFault → ℕ
 table_number Size = 1
 table_number Entries = 2
-
--- What a table sheet means: that of its table. A size that no accepted table has is read as the nearest that is allowed.
-abbrev pub meaning_of : TableSheet → Meaning
-meaning_of s = table (max 1 (min s.size 256)) s.entries.now

@@ -1,7 +1,6 @@
 // A sheet read from a table of 16-bit entries.
-ghost use Rattle.std.specs.Prelude.{◌≡◌, if◌then◌else◌, Some, None, Ok, Err, slice_index_or};
-ghost use Rattle.sheets.specs.Tables.{table, table_fit, entry, table_judged, table_number, meaning_of};
-ghost use Rattle.sheets.specs.TableLaws.{table-lawful};
+ghost use Rattle.std.specs.Prelude.{◌≤◌, length, ◌≡◌, if◌then◌else◌, Some, None, Ok, Err, slice_index_or};
+ghost use Rattle.sheets.specs.Tables.{table, table_fit, entry, table_judged, table_number, entries_of};
 
 use crate::sheet::{Points, Sheet};
 
@@ -12,6 +11,9 @@ const APART: u16 = 65535;
 pub struct TableSheet<'a> {
     size: usize,
     entries: &'a [u16],
+    ghost least: { 1 ≤ size },
+    ghost most: { size ≤ 256 },
+    ghost whole: { length entries.now ≡ entries_of size },
 }
 
 // Why a table is refused.
@@ -32,23 +34,14 @@ impl TableFault {
     }
 }
 
-// The entry at a place; past the end the two don't fit.
-fn entry_at(entries: &[u16], place: usize) -> u16
-    ensures { result ≡ slice_index_or entries.now place 65535 }
-{
-    if place < entries.len() {
-        entries[place]
-    } else {
-        APART
-    }
-}
-
 impl<'a> TableSheet<'a> {
+    ghost use Rattle.sheets.specs.TableSheets.{meaning_of};
+
     // The sheet with n candidates whose entry for u < v stands at v(v - 1)/2 + u.
     pub fn new(n: usize, entries: &'a [u16]) -> Result<TableSheet<'a>, TableFault>
         ensures { elim result [ Ok s ↦ (table_judged n entries.now ≡ Ok tt) × (meaning_of s ≡ table n entries.now) | Err e ↦ table_judged n entries.now ≡ Err e ] }
     {
-        if n < 1 || n > 256 {
+        if !(1..=256).contains(&n) {
             return Err(TableFault::Size);
         }
         if entries.len() != n * (n - 1) / 2 {
@@ -63,25 +56,23 @@ impl<'a> TableSheet<'a> {
     {
         let low = u.min(v);
         let high = u.max(v);
-        if low == high || high >= self.size() {
+        if low == high || high >= self.size {
             return None;
         }
-        let entry = entry_at(self.entries, high * (high - 1) / 2 + low);
-        if entry < APART {
-            Some(entry as Points)
-        } else {
-            None
-        }
+        let entry = self.entries[high * (high - 1) / 2 + low];
+        if entry < APART { Some(Points::from(entry)) } else { None }
     }
 }
 
 impl Sheet for TableSheet<'_> {
+    ghost use Rattle.sheets.specs.TableSheets.{meaning_of, table-lawful};
+
     ghost meaning = { meaning_of };
 
     ghost lawful = { table-lawful };
 
     fn size(&self) -> usize {
-        self.size.clamp(1, 256)
+        self.size
     }
 
     fn fits(&self, u: usize, v: usize) -> bool {
