@@ -1,5 +1,5 @@
 // A sheet read from a table of 16-bit entries.
-ghost use Rattle.std.specs.Prelude.{◌≡◌, if◌then◌else◌, Some, None, Ok, Err, slice_index_or};
+ghost use Rattle.std.specs.Prelude.{◌≡◌, if◌then◌else◌, Some, None, Ok, Err};
 ghost use Rattle.sheets.specs.Tables.{table, table_fit, entry, table_judged, table_number, meaning_of};
 ghost use Rattle.sheets.specs.TableLaws.{table-lawful};
 
@@ -32,23 +32,12 @@ impl TableFault {
     }
 }
 
-// The entry at a place; past the end the two don't fit.
-fn entry_at(entries: &[u16], place: usize) -> u16
-    ensures { result ≡ slice_index_or entries.now place 65535 }
-{
-    if place < entries.len() {
-        entries[place]
-    } else {
-        APART
-    }
-}
-
 impl<'a> TableSheet<'a> {
     // The sheet with n candidates whose entry for u < v stands at v(v - 1)/2 + u.
     pub fn new(n: usize, entries: &'a [u16]) -> Result<TableSheet<'a>, TableFault>
         ensures { elim result [ Ok s ↦ (table_judged n entries.now ≡ Ok tt) × (meaning_of s ≡ table n entries.now) | Err e ↦ table_judged n entries.now ≡ Err e ] }
     {
-        if n < 1 || n > 256 {
+        if !(1..=256).contains(&n) {
             return Err(TableFault::Size);
         }
         if entries.len() != n * (n - 1) / 2 {
@@ -66,12 +55,9 @@ impl<'a> TableSheet<'a> {
         if low == high || high >= self.size() {
             return None;
         }
-        let entry = entry_at(self.entries, high * (high - 1) / 2 + low);
-        if entry < APART {
-            Some(entry as Points)
-        } else {
-            None
-        }
+        let place = high * (high - 1) / 2 + low;
+        let entry = self.entries.get(place).filter(|entry| **entry < APART)?;
+        Some(Points::from(*entry))
     }
 }
 
