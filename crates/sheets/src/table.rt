@@ -1,6 +1,6 @@
 // A sheet read from a table of 16-bit entries.
-ghost use Rattle.std.specs.Prelude.{◌≤◌, length, ◌≡◌, if◌then◌else◌, Some, None, Ok, Err, slice_index_or};
-ghost use Rattle.sheets.specs.Tables.{table, table_fit, entry, table_judged, table_number, entries_of};
+ghost use Rattle.std.specs.Prelude.{◌≡◌, ◌≤◌, if◌then◌else◌, Some, None, Ok, Err};
+ghost use Rattle.sheets.specs.Tables.{table, table_fit, entry, table_judged, table_number};
 
 use crate::sheet::{Points, Sheet};
 
@@ -13,7 +13,6 @@ pub struct TableSheet<'a> {
     entries: &'a [u16],
     ghost least: { 1 ≤ size },
     ghost most: { size ≤ 256 },
-    ghost whole: { length entries.now ≡ entries_of size },
 }
 
 // Why a table is refused.
@@ -59,8 +58,9 @@ impl<'a> TableSheet<'a> {
         if low == high || high >= self.size {
             return None;
         }
-        let entry = self.entries[high * (high - 1) / 2 + low];
-        if entry < APART { Some(Points::from(entry)) } else { None }
+        let place = high * (high - 1) / 2 + low;
+        let entry = self.entries.get(place).filter(|entry| **entry < APART)?;
+        Some(Points::from(*entry))
     }
 }
 
