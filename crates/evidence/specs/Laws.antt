@@ -1,8 +1,9 @@
 -- The laws of a sheet hold of all evidence, and two candidates earn at most 51.
-use Rattle.std.specs.Prelude.{◌≡◌, ℕ, ◌≤◌, min, max, Bool, true, false, cond, not, ◌&&◌, ◌||◌, List, length, ◌==◌, nat_lt, refl}
-use Rattle.std.proofs.Common.{sym, arith}
+use Rattle.std.specs.Prelude.{◌≡◌, ℕ, ◌≤◌, min, max, Bool, false, cond, not, ◌&&◌, List, length, ◌==◌, nat_lt, refl}
+use Rattle.std.proofs.Common.{arith}
 use Rattle.std.proofs.lemmas.Bool.{and_left, and_right, eq-eqb, not_from_true, le-ltb, cond-false, cond_both}
-use Rattle.std.proofs.lemmas.Bool.Decides.{same_from_decides, Decides-eqb, Decides-like}
+use Rattle.std.proofs.lemmas.Bool.Decides.{nat_tests}
+use Rattle.std.proofs.Math.Bool.{or_comm}
 use Rattle.candidates.proofs.Sets.{and_comm}
 use Rattle.sheets.specs.Meaning.{Lawful}
 use Rattle.evidence.specs.declared.records.Meter.{Meter}
@@ -12,20 +13,14 @@ use Rattle.evidence.specs.declared.sheet.EvidenceSheet.{EvidenceSheet}
 use Rattle.evidence.specs.Evidence.{meter_at, flat_at, candidate_at, apart, wiring, rises, order, earned, evidence_fit, evidence_of, meaning_of}
 
 eqb-both : (a b : ℕ) → (a == b) ≡ (b == a)
-eqb-both a b = same_from_decides (a == b) (b == a) (Decides-eqb a b) (Decides-like (b == a) sym sym (Decides-eqb b a))
-
-or-both : (x y : Bool) → (x || y) ≡ (y || x)
-or-both true true = refl
-or-both true false = refl
-or-both false true = refl
-or-both false false = refl
+eqb-both a b = grind (arith, nat_tests)
 
 wiring-both : (a b : Meter) (f g : Flat) → wiring a b f g ≡ wiring b a g f
 wiring-both a b f g = rw (eqb-both a.collector b.collector, eqb-both f.riser g.riser)
 
 order-both : (a b : Meter) (f g : Flat) → order a b f g ≡ order b a g f
 order-both a b f g =
-    rw (or-both (nat_lt a.serial b.serial && nat_lt f.floor g.floor) (nat_lt b.serial a.serial && nat_lt g.floor f.floor), eqb-both f.floor g.floor)
+    rw (or_comm (nat_lt a.serial b.serial && nat_lt f.floor g.floor) (nat_lt b.serial a.serial && nat_lt g.floor f.floor), eqb-both f.floor g.floor)
 
 apart-both : (a b : Candidate) → apart a b ≡ apart b a
 apart-both a b = rw (eqb-both a.meter b.meter, eqb-both a.flat b.flat)
@@ -35,15 +30,10 @@ apart-itself a =
     and_left (not (a.meter == a.meter)) (not (a.flat == a.flat)) (not_from_true (a.meter == a.meter) (eq-eqb a.meter a.meter refl))
 
 wiring-most : (x y : Bool) → cond x (cond y 40 0) (cond y 0 15) ≤ 40
-wiring-most true true = omega arith
-wiring-most true false = omega arith
-wiring-most false true = omega arith
-wiring-most false false = omega arith
+wiring-most x y = grind arith
 
 order-most : (x y : Bool) → cond x 11 (cond y 4 0) ≤ 11
-order-most true y = omega arith
-order-most false true = omega arith
-order-most false false = omega arith
+order-most x y = grind arith
 
 module _ (ms : List Meter) (fs : List Flat) (a b : Candidate) where
   earned-both : earned ms fs a b ≡ earned ms fs b a

@@ -1,14 +1,14 @@
 // The records that evidence consists of. A place counts from 0 in the list that it points into.
 
 // A meter, and the collector that it reports to.
-#[derive(Clone, Copy)]
+#[derive(Clone, Copy, Default)]
 pub struct Meter {
     pub serial: u32,
     pub collector: u16,
 }
 
 // A flat, by its riser and its floor.
-#[derive(Clone, Copy)]
+#[derive(Clone, Copy, Default)]
 pub struct Flat {
     pub riser: u16,
     pub floor: u8,

@@ -1,7 +1,7 @@
 // A sheet read from evidence: three lent lists of records, read by place.
-ghost use Rattle.std.specs.Prelude.{◌≡◌, ℕ, ◌≤◌, if◌then◌else◌, Some, None, slice_index_or};
+ghost use Rattle.std.specs.Prelude.{◌≡◌, ℕ, ◌≤◌, if◌then◌else◌, Some, None};
 ghost use Rattle.sheets.specs.Refusals.{first_no};
-ghost use Rattle.evidence.specs.Evidence.{wiring as wiring_of, rises as rises_of, order as order_of, evidence, meaning_of};
+ghost use Rattle.evidence.specs.Evidence.{wiring as wiring_of, order as order_of, meter_at, flat_at, evidence, meaning_of};
 ghost use Rattle.evidence.specs.Judged.{serials, places, Answered};
 ghost use Rattle.evidence.specs.Laws.{evidence-lawful};
 ghost use Rattle.evidence.specs.Worked.{Worked};
@@ -9,16 +9,7 @@ ghost use Rattle.evidence.specs.Worked.{Worked};
 use crate::fault::EvidenceFault;
 use crate::records::{Candidate, Flat, Meter};
 use sheets::sheet::{Points, Sheet};
-
-// What is read past the end of a list.
-const NO_METER: Meter = Meter {
-    serial: 0,
-    collector: 0,
-};
-
-const NO_FLAT: Flat = Flat { riser: 0, floor: 0 };
-
-const NO_CANDIDATE: Candidate = Candidate { meter: 0, flat: 0 };
+use std::cmp::Ordering;
 
 // Candidates are read from the lists as they are asked for; nothing is copied.
 #[derive(Clone, Copy)]
@@ -28,45 +19,38 @@ pub struct EvidenceSheet<'a> {
     candidates: &'a [Candidate],
 }
 
-// The record at a place, or the absent one past the end.
-fn record_at<R: Copy>(records: &[R], place: usize, absent: R) -> R
-    ensures { result ≡ slice_index_or records.now place absent }
-{
-    if place < records.len() {
-        records[place]
-    } else {
-        absent
+// A meter, and the flat that a candidate puts it in.
+#[derive(Clone, Copy)]
+struct Hung {
+    meter: Meter,
+    flat: Flat,
+}
+
+impl Hung {
+    // 40 for one collector and one riser, 15 for two collectors and two risers.
+    fn wiring(self, other: Hung) -> Points
+        ensures { result ≡ wiring_of self.meter other.meter self.flat other.flat }
+    {
+        let collectors = self.meter.collector == other.meter.collector;
+        let risers = self.flat.riser == other.flat.riser;
+        match (collectors, risers) {
+            (true, true) => 40,
+            (false, false) => 15,
+            _ => 0,
+        }
     }
-}
 
-// 40 for one collector and one riser, 15 for two collectors and two risers.
-fn wiring(a: Meter, b: Meter, f: Flat, g: Flat) -> Points
-    ensures { result ≡ wiring_of a b f g }
-{
-    match (a.collector == b.collector, f.riser == g.riser) {
-        (true, true) => 40,
-        (false, false) => 15,
-        _ => 0,
-    }
-}
-
-// Whether the higher serial has the higher floor.
-fn rises(a: Meter, b: Meter, f: Flat, g: Flat) -> bool
-    ensures { result ≡ rises_of a b f g }
-{
-    (a.serial < b.serial && f.floor < g.floor) || (b.serial < a.serial && g.floor < f.floor)
-}
-
-// 11 if the higher serial has the higher floor, 4 if the floors are equal.
-fn order(a: Meter, b: Meter, f: Flat, g: Flat) -> Points
-    ensures { result ≡ order_of a b f g }
-{
-    if rises(a, b, f, g) {
-        11
-    } else if f.floor == g.floor {
-        4
-    } else {
-        0
+    // 11 if the higher serial has the higher floor, 4 if the floors are equal.
+    fn order(self, other: Hung) -> Points
+        ensures { result ≡ order_of self.meter other.meter self.flat other.flat }
+    {
+        let serials = self.meter.serial.cmp(&other.meter.serial);
+        let floors = self.flat.floor.cmp(&other.flat.floor);
+        match (serials, floors) {
+            (Ordering::Less, Ordering::Less) | (Ordering::Greater, Ordering::Greater) => 11,
+            (_, Ordering::Equal) => 4,
+            _ => 0,
+        }
     }
 }
 
@@ -74,24 +58,27 @@ fn order(a: Meter, b: Meter, f: Flat, g: Flat) -> Points
 fn check_serials(meters: &[Meter]) -> Result<(), EvidenceFault>
     ensures { result ≡ first_no (serials meters.now) }
 {
-    for i in 1..meters.len() {
-        if meters[i].serial <= meters[i - 1].serial {
-            return Err(EvidenceFault::Serial { meter: i });
-        }
+    let low = meters
+        .iter()
+        .skip(1)
+        .zip(meters)
+        .position(|(meter, before)| meter.serial <= before.serial);
+    match low {
+        Some(place) => Err(EvidenceFault::Serial { meter: place + 1 }),
+        None => Ok(()),
     }
-    Ok(())
 }
 
 // Each candidate names places within both lists.
 fn check_places(meters: usize, flats: usize, candidates: &[Candidate]) -> Result<(), EvidenceFault>
     ensures { result ≡ first_no (places meters flats candidates.now) }
 {
-    for (i, c) in candidates.iter().enumerate() {
-        if c.meter as usize >= meters || c.flat as usize >= flats {
-            return Err(EvidenceFault::Place { candidate: i });
-        }
+    let outside = candidates.iter().position(|c| usize::from(c.meter) >= meters
+        || usize::from(c.flat) >= flats);
+    match outside {
+        Some(candidate) => Err(EvidenceFault::Place { candidate }),
+        None => Ok(()),
     }
-    Ok(())
 }
 
 impl<'a> EvidenceSheet<'a> {
@@ -105,7 +92,7 @@ impl<'a> EvidenceSheet<'a> {
         ensures bound { (u v : ℕ) → (evidence meters.now flats.now candidates.now).points u v ≤ 51 }
         ensures worked { Worked }
     {
-        if candidates.len() < 1 || candidates.len() > 256 {
+        if !(1..=256).contains(&candidates.len()) {
             return Err(EvidenceFault::Candidates);
         }
         check_serials(meters)?;
@@ -124,16 +111,27 @@ impl<'a> EvidenceSheet<'a> {
         if u >= self.size() || v >= self.size() {
             return None;
         }
-        let a = record_at(self.candidates, u, NO_CANDIDATE);
-        let b = record_at(self.candidates, v, NO_CANDIDATE);
+        let a = self.candidates.get(u)?;
+        let b = self.candidates.get(v)?;
         if a.meter == b.meter || a.flat == b.flat {
             return None;
         }
-        let m = record_at(self.meters, a.meter as usize, NO_METER);
-        let n = record_at(self.meters, b.meter as usize, NO_METER);
-        let f = record_at(self.flats, a.flat as usize, NO_FLAT);
-        let g = record_at(self.flats, b.flat as usize, NO_FLAT);
-        Some(wiring(m, n, f, g) + order(m, n, f, g))
+        let a = self.hung(*a);
+        let b = self.hung(*b);
+        Some(a.wiring(b) + a.order(b))
+    }
+
+    // The records that a candidate names; past the end of a list they are zeros.
+    fn hung(&self, candidate: Candidate) -> Hung
+        ensures meter { result.meter ≡ meter_at self.now.meters.now candidate.meter }
+        ensures flat { result.flat ≡ flat_at self.now.flats.now candidate.flat }
+    {
+        let meter = self.meters.get(usize::from(candidate.meter));
+        let flat = self.flats.get(usize::from(candidate.flat));
+        Hung {
+            meter: meter.copied().unwrap_or_default(),
+            flat: flat.copied().unwrap_or_default(),
+        }
     }
 }
 

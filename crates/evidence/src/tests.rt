@@ -128,18 +128,13 @@ fn house(rt: HostRuntime) -> Result<(), Fail> {
 
 // Writes the entries of a table that answers as the sheet does.
 fn write_entries(sheet: &EvidenceSheet, entries: &mut [u16]) {
-    let mut place = 0;
-    for v in 0..sheet.size() {
-        for u in 0..v {
-            if place < entries.len() {
-                entries[place] = if sheet.fits(u, v) {
-                    sheet.points(u, v).min(65534) as u16
-                } else {
-                    65535
-                };
-                place += 1;
-            }
-        }
+    let pairs = (0..sheet.size()).flat_map(|v| (0..v).map(move |u| (u, v)));
+    for (entry, (u, v)) in entries.iter_mut().zip(pairs) {
+        *entry = if sheet.fits(u, v) {
+            u16::try_from(sheet.points(u, v)).unwrap_or(65534)
+        } else {
+            65535
+        };
     }
 }
 

@@ -5,7 +5,7 @@ use Rattle.std.proofs.lemmas.Bool.Decides.{nat_tests}
 use Rattle.candidates.specs.Sets.{is_in, From, counting, Sub}
 use Rattle.candidates.proofs.Sets.{in-first, in_rest, from-weaker, in-from, from-sub, from-counting, is_in-counting, sub-from-within, within-from-sub}
 use Rattle.sheets.specs.Meaning.{Meaning, Lawful}
-use Rattle.sheets.specs.Cliques.{Clique, SmallCliques, fits_all, is_clique}
+use Rattle.sheets.specs.Cliques.{Clique, fits_all, is_clique}
 
 pub clique-none : (m : Meaning) → Clique m []
 clique-none m = record { ascending = tt; below = λ v e. absurd (grind (arith, nat_tests)); fits = λ u v e. absurd (grind (arith, nat_tests)) }
@@ -37,12 +37,6 @@ clique-cons m law v K h c = record {
   below = λ u e. let first = h.candidate in let inside = c.below u in grind (arith, nat_tests);
   fits = λ u w e f differ. let in-front = h.fits in let inside = c.fits u w in grind (arith, nat_tests, in-front u, in-front w, law.fit-both u w);
 }
-
-pub clique-single : (m : Meaning) → Lawful m → (v : ℕ) → v < m.size → Clique m (v ∷ [])
-clique-single m law v lt = clique-cons m law v [] (record { above = tt; candidate = lt; fits = λ k e. absurd (grind (arith, nat_tests)) }) (clique-none m)
-
-pub small-cliques : (m : Meaning) → Lawful m → SmallCliques m
-small-cliques m law = record { empty = clique-none m; single = clique-single m law }
 
 fits-from-test : (m : Meaning) (v : ℕ) (K : List ℕ) → fits_all m v K ≡ true → (k : ℕ) → is_in k K ≡ true → m.fit v k ≡ true
 fits-from-test m v [] t k e = absurd (grind (arith, nat_tests))

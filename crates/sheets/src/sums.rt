@@ -11,11 +11,7 @@ use candidates::set::CandidateSet;
 pub fn rho<S: Sheet>(sheet: &S, set: CandidateSet, v: usize) -> Points
     ensures { result ≡ rho_of (S.Sheet.meaning sheet.now) (members set) v }
 {
-    let mut sum = 0;
-    for u in set.iter() {
-        sum += sheet.points(u, v);
-    }
-    sum
+    set.iter().map(|u| sheet.points(u, v)).sum()
 }
 
 // The points of all pairs within the set, each pair once.
@@ -25,7 +21,7 @@ pub fn weight<S: Sheet>(sheet: &S, set: CandidateSet) -> Points
 {
     let mut rest = set;
     let mut sum = 0;
-    while let Some(v) = rest.lowest() {
+    for v in set.iter() {
         rest = rest.without(v);
         sum += rho(sheet, rest, v);
     }
@@ -35,12 +31,7 @@ pub fn weight<S: Sheet>(sheet: &S, set: CandidateSet) -> Points
 fn fits_all<S: Sheet>(sheet: &S, v: usize, set: CandidateSet) -> bool
     ensures { result ≡ fits_all (S.Sheet.meaning sheet.now) v (members set) }
 {
-    for u in set.iter() {
-        if !sheet.fits(v, u) {
-            return false;
-        }
-    }
-    true
+    set.iter().all(|u| sheet.fits(v, u))
 }
 
 // Whether the members are candidates of the sheet that all fit each other.
@@ -49,7 +40,7 @@ pub fn is_clique<S: Sheet>(sheet: &S, set: CandidateSet) -> bool
     ensures small { SmallCliques (S.Sheet.meaning sheet.now) }
 {
     let mut rest = set;
-    while let Some(v) = rest.lowest() {
+    for v in set.iter() {
         rest = rest.without(v);
         if v >= sheet.size() || !fits_all(sheet, v, rest) {
             return false;

@@ -1,8 +1,7 @@
-use Rattle.std.proofs.Common.{◌≡◌, ℕ, ◌+◌, ◌<◌, ◌≤◌, Bool, true, false, ◌&&◌, ◌||◌, eqb, ltb, sym, ap, ◌∙◌, arith}
+use Rattle.std.proofs.Common.{◌≡◌, ℕ, ◌+◌, ◌<◌, Bool, true, false, ◌&&◌, ◌||◌, eqb, ltb, sym, ap, ◌∙◌, arith}
 use Rattle.std.proofs.lemmas.Bool.{eqb-true}
 use Rattle.std.proofs.lemmas.Bool.Decides.{nat_tests}
 use Rattle.candidates.specs.Members.{has}
-use Rattle.sheets.specs.Meaning.{Meaning, Lawful}
 use Rattle.sheets.proofs.sheet.Sheet.fitting.Goals as goal
 use Rattle.sheets.proofs.sheet.Sheet.fitting.Goals.{then-fits, else-fits}
 
@@ -12,10 +11,6 @@ marked f u k old new few before now yes' = let same : eqb k u ≡ true → f k �
 passed : (f : ℕ → Bool) (u k : ℕ) (old : Bool) → old ≡ (ltb k u && f k) → f u ≡ false → old ≡ (ltb k (u + 1) && f k)
 passed f u k old before no' = let same : eqb k u ≡ true → f k ≡ f u = λ e. ap f (eqb-true k u e) in grind (arith, nat_tests)
 
--- all candidates are marked
-done : (m : Meaning) → Lawful m → (v u k : ℕ) (b : Bool) → m.size ≤ u → b ≡ (ltb k u && m.fit v k) → b ≡ m.fit v k
-done m law v u k b all is = let out = λ (h : m.size ≤ k). law.fit-both v k ∙ law.outside k v h in grind (arith, nat_tests)
-
 pub loop-u-preserved : goal.loop-u-preserved
 loop-u-preserved g c = λ k.
     let m = g.Self.Sheet.meaning c.args.self.now in
@@ -24,8 +19,3 @@ loop-u-preserved g c = λ k.
       | then-fits w ↦ ap (λ s. has s k) w.set-is ∙ marked (m.fit c.args.v) c.loop-u.u k _ _ few (c.loop-u.invariant k) (w.with-set.ensures.marks k) (sym w.if-fits.ensures)
       | else-fits w ↦ ap (λ s. has s k) w.set-is ∙ passed (m.fit c.args.v) c.loop-u.u k _ (c.loop-u.invariant k) (sym w.if-fits.ensures)
     ]
-
-pub returns : goal.returns
-returns g c = λ k.
-    let m = g.Self.Sheet.meaning c.args.self.now in
-    done m (g.Self.Sheet.lawful c.args.self.now) c.args.v c.loop-u.u k _ (omega arith) (c.loop-u.invariant k)
