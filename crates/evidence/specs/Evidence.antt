@@ -1,10 +1,9 @@
 -- What evidence means as a sheet: which two candidates fit, and what they earn.
-use Rattle.std.specs.Prelude.{ℕ, ◌+◌, min, max, Bool, cond, not, ◌&&◌, ◌||◌, List, length, ◌==◌, nat_lt, slice_index_or}
+use Rattle.std.specs.Prelude.{ℕ, ◌+◌, Bool, cond, not, ◌&&◌, ◌||◌, List, length, ◌==◌, nat_lt, slice_index_or}
 use Rattle.sheets.specs.Meaning.{Meaning}
 use Rattle.evidence.specs.declared.records.Meter.{Meter}
 use Rattle.evidence.specs.declared.records.Flat.{Flat}
 use Rattle.evidence.specs.declared.records.Candidate.{Candidate}
-use Rattle.evidence.specs.declared.sheet.EvidenceSheet.{EvidenceSheet}
 
 -- The record at a place; past the end of its list it reads as zeros.
 abbrev pub meter_at : List Meter → ℕ → Meter
@@ -41,18 +40,10 @@ earned ms fs a b =
     let g = flat_at fs b.flat in
     wiring m n f g + order m n f g
 
--- Two of the first n candidates fit when they are apart.
-abbrev pub evidence_fit : ℕ → List Candidate → ℕ → ℕ → Bool
-evidence_fit n cs u v = (nat_lt u n && nat_lt v n) && apart (candidate_at cs u) (candidate_at cs v)
+-- Two candidates fit when they are apart.
+abbrev pub evidence_fit : List Candidate → ℕ → ℕ → Bool
+evidence_fit cs u v = (nat_lt u (length cs) && nat_lt v (length cs)) && apart (candidate_at cs u) (candidate_at cs v)
 
--- The sheet of the first n candidates; two that don't fit have 0 points.
-abbrev pub evidence_of : ℕ → List Meter → List Flat → List Candidate → Meaning
-evidence_of n ms fs cs = record { size = n; fit = evidence_fit n cs; points = λ u v. cond (evidence_fit n cs u v) (earned ms fs (candidate_at cs u) (candidate_at cs v)) 0 }
-
--- The sheet of all candidates.
+-- The sheet of all candidates; two that don't fit have 0 points.
 abbrev pub evidence : List Meter → List Flat → List Candidate → Meaning
-evidence ms fs cs = evidence_of (length cs) ms fs cs
-
--- What an evidence sheet means: that of its lists. A number of candidates that is never accepted is read as the nearest that is.
-abbrev pub meaning_of : EvidenceSheet → Meaning
-meaning_of s = evidence_of (max 1 (min (length s.candidates.now) 256)) s.meters.now s.flats.now s.candidates.now
+evidence ms fs cs = record { size = length cs; fit = evidence_fit cs; points = λ u v. cond (evidence_fit cs u v) (earned ms fs (candidate_at cs u) (candidate_at cs v)) 0 }

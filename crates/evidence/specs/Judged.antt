@@ -1,12 +1,11 @@
 -- When evidence is refused: every question put to it, in order.
-use Rattle.std.specs.Prelude.{◌≡◌, ℕ, ◌-◌, Bool, ◌&&◌, List, ◌∷◌, ◌++◌, map, length, Ok, Err, Result, nat_le, nat_lt}
+use Rattle.std.specs.Prelude.{ℕ, ◌-◌, Bool, ◌&&◌, List, ◌∷◌, ◌++◌, map, length, Result, nat_le, nat_lt}
 use Rattle.candidates.specs.Sets.{counting}
 use Rattle.sheets.specs.Refusals.{first_no}
 use Rattle.evidence.specs.declared.records.Meter.{Meter}
 use Rattle.evidence.specs.declared.records.Flat.{Flat}
 use Rattle.evidence.specs.declared.records.Candidate.{Candidate}
-use Rattle.evidence.specs.declared.sheet.EvidenceSheet.{EvidenceSheet}
-use Rattle.evidence.specs.Evidence.{meter_at, candidate_at, evidence, meaning_of}
+use Rattle.evidence.specs.Evidence.{meter_at, candidate_at}
 use Rattle.evidence.specs.declared.fault.EvidenceFault.{EvidenceFault}
 use Rattle.evidence.specs.declared.fault.EvidenceFault.TheVariants.{Candidates, Serial, Place}
 
@@ -37,8 +36,3 @@ abbrev pub number_of : EvidenceFault → ℕ
 number_of Candidates = 1
 number_of (Serial _) = 3
 number_of (Place _) = 4
-
--- What evidence is answered with: a sheet that means it, or the fault that decides.
-abbrev pub Answered : List Meter → List Flat → List Candidate → Result EvidenceSheet EvidenceFault → Type 0
-Answered ms fs cs (Ok s) = (evidence_judged ms fs cs ≡ Ok tt) × (meaning_of s ≡ evidence ms fs cs)
-Answered ms fs cs (Err e) = evidence_judged ms fs cs ≡ Err e

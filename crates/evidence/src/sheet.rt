@@ -1,9 +1,8 @@
 // A sheet read from evidence: three lent lists of records, read by place.
-ghost use Rattle.std.specs.Prelude.{◌≡◌, ℕ, ◌≤◌, if◌then◌else◌, Some, None};
+ghost use Rattle.std.specs.Prelude.{◌≡◌, ℕ, ◌≤◌, length, if◌then◌else◌, Some, None};
 ghost use Rattle.sheets.specs.Refusals.{first_no};
-ghost use Rattle.evidence.specs.Evidence.{wiring as wiring_of, order as order_of, meter_at, flat_at, evidence, meaning_of};
-ghost use Rattle.evidence.specs.Judged.{serials, places, Answered};
-ghost use Rattle.evidence.specs.Laws.{evidence-lawful};
+ghost use Rattle.evidence.specs.Evidence.{wiring as wiring_of, order as order_of, meter_at, flat_at, evidence};
+ghost use Rattle.evidence.specs.Judged.{serials, places};
 ghost use Rattle.evidence.specs.Worked.{Worked};
 
 use crate::fault::EvidenceFault;
@@ -17,6 +16,8 @@ pub struct EvidenceSheet<'a> {
     meters: &'a [Meter],
     flats: &'a [Flat],
     candidates: &'a [Candidate],
+    ghost least: { 1 ≤ length candidates.now },
+    ghost most: { length candidates.now ≤ 256 },
 }
 
 // A meter, and the flat that a candidate puts it in.
@@ -82,6 +83,8 @@ fn check_places(meters: usize, flats: usize, candidates: &[Candidate]) -> Result
 }
 
 impl<'a> EvidenceSheet<'a> {
+    ghost use Rattle.evidence.specs.Sheets.{Answered, meaning_of};
+
     // The sheet of the evidence. Every record is questioned, also one that no candidate names.
     pub fn new(
         meters: &'a [Meter],
@@ -108,9 +111,6 @@ impl<'a> EvidenceSheet<'a> {
     fn points_of(&self, u: usize, v: usize) -> Option<Points>
         ensures { result ≡ (if (meaning_of self.now).fit u v then Some ((meaning_of self.now).points u v) else None) }
     {
-        if u >= self.size() || v >= self.size() {
-            return None;
-        }
         let a = self.candidates.get(u)?;
         let b = self.candidates.get(v)?;
         if a.meter == b.meter || a.flat == b.flat {
@@ -136,12 +136,14 @@ impl<'a> EvidenceSheet<'a> {
 }
 
 impl Sheet for EvidenceSheet<'_> {
+    ghost use Rattle.evidence.specs.Sheets.{evidence-lawful, meaning_of};
+
     ghost meaning = { meaning_of };
 
     ghost lawful = { evidence-lawful };
 
     fn size(&self) -> usize {
-        self.candidates.len().clamp(1, 256)
+        self.candidates.len()
     }
 
     fn fits(&self, u: usize, v: usize) -> bool {

@@ -1,6 +1,5 @@
-use Rattle.std.proofs.Common.{◌≡◌, min, max, ◌≤◌, rules, tests, length, sym, ap, ◌∙◌, arith}
+use Rattle.std.proofs.Common.{◌≤◌, rules, tests, length, sym, refl, ◌∙◌}
 use Rattle.std.proofs.lemmas.Result.{err_from_is_err_and}
-use Rattle.evidence.specs.Evidence.{evidence_of}
 use Rattle.evidence.proofs.Questions.{judged-serials, judged-places}
 use Rattle.evidence.proofs.sheet.EvidenceSheet.new.Goals as goal
 use Rattle.evidence.proofs.sheet.EvidenceSheet.new.Goals.{After-check_serials}
@@ -33,5 +32,4 @@ returns-clause-value c =
     let ms = c.args.meters.now in
     let fs = c.args.flats.now in
     let cs = c.args.candidates.now in
-    let size : max 1 (min (length cs) 256) ≡ length cs = omega arith in
-    (judged-places ms fs cs n.0 n.1 c.in_ok-check_serials.ensures ∙ sym c.in_ok-check_places.ensures, ap (λ n. evidence_of n ms fs cs) size)
+    (judged-places ms fs cs n.0 n.1 c.in_ok-check_serials.ensures ∙ sym c.in_ok-check_places.ensures, refl)
