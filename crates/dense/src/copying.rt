@@ -7,27 +7,20 @@ ghost use Rattle.dense.specs.Dense.{row};
 use crate::sheet::DenseSheet;
 use candidates::set::CandidateSet;
 use sheets::sheet::Sheet;
+use std::array;
 
 // For each candidate, those that fit it.
 fn rows_of<S: Sheet>(sheet: &S) -> [CandidateSet; 256]
     ensures { (u : ℕ) → u < 256 → (k : ℕ) → has (row result u) k ≡ (S.Sheet.meaning sheet.now).fit u k }
 {
-    let mut rows = [CandidateSet::empty(); 256];
-    for u in 0..256 {
-        rows[u] = sheet.fitting(u);
-    }
-    rows
+    array::from_fn(|u| sheet.fitting(u))
 }
 
-// The points of all pairs, in both orders.
+// The points of all pairs, in both orders. None are above 65,534, so the cast keeps them.
 fn square_of<S: Sheet>(sheet: &S) -> [u16; 65536]
     ensures { (k : ℕ) → k < 65536 → slice_index result k ≡ (S.Sheet.meaning sheet.now).points (k / 256) (k % 256) }
 {
-    let mut points = [0; 65536];
-    for k in 0..65536 {
-        points[k] = sheet.points(k / 256, k % 256) as u16;
-    }
-    points
+    array::from_fn(|k| sheet.points(k / 256, k % 256) as u16)
 }
 
 impl DenseSheet {

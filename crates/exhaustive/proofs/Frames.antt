@@ -17,9 +17,6 @@ lighter-than-more : (old : Held) (a b : ℕ) → Lighter old a → a < b → Lig
 lighter-than-more None a b l lt = tt
 lighter-than-more (Some h) a b l lt = omega arith
 
-pub explored-leaf-stays : (m : Meaning) (C : List ℕ) (old : Held) → Covers old (weight m C) → Explored m C [] old old
-explored-leaf-stays m C old c = stays refl (λ K k. subst (λ l. Covers old (weight m l)) (sym (comes-none k)) c)
-
 pub explored-leaf-gives : (m : Meaning) (C : List ℕ) (old : Held) (w : ℕ) → w ≡ weight m C → Lighter old w → Explored m C [] old (Some (C, w))
 explored-leaf-gives m C old w is l = gives C w refl (record {
   comes = comes-itself m C [];

@@ -17,9 +17,8 @@ fn heavier<S: Sheet>(sheet: &S, held: Option<Pairing>, set: CandidateSet) -> Opt
 {
     let points = weight(sheet, set);
     match held {
-        None => Some(Pairing { set, points }),
-        Some(best) if best.points < points => Some(Pairing { set, points }),
-        Some(best) => Some(best),
+        Some(best) if best.points >= points => held,
+        _ => Some(Pairing { set, points }),
     }
 }
 

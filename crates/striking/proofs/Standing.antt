@@ -1,6 +1,5 @@
 -- What is struck after a list of moves, by what was struck before it.
-use Rattle.std.proofs.Common.{◌≡◌, ℕ, ◌+◌, ◌<◌, ◌≤◌, Bool, true, false, cond, ◌&&◌, eqb, ltb, ◌⊎◌, List, [], ◌∷◌, length, get_or, drop, Decides, sym, refl, ap, ◌∙◌, subst, inl, inr}
-use Rattle.std.proofs.lemmas.List.{at_drop_more}
+use Rattle.std.proofs.Common.{◌≡◌, ℕ, ◌<◌, ◌≤◌, Bool, true, false, cond, ◌&&◌, eqb, ltb, ◌⊎◌, List, [], ◌∷◌, Decides, sym, refl, ◌∙◌, subst, inl, inr}
 use Rattle.std.proofs.lemmas.Bool.{cases_eq, cases_lt, cond-true, cond-false, and_from, and_left, and_right, eq-eqb, ne_eqb, lt-ltb, le-ltb, false≢true}
 use Rattle.striking.specs.declared.moves.Move.{Move}
 use Rattle.striking.specs.declared.moves.Move.TheVariants.{Strike, Restore}
@@ -60,6 +59,3 @@ module _ (n v : ℕ) where
     ],
     λ both. struck_by-last both.0 false both.1,
   )
-
-  pub struck_by-more : (b c : Bool) (ms : List Move) (i : ℕ) (d : Move) → i < length ms → c ≡ struck_once n v b (get_or ms i d) → struck_by n v c (drop (i + 1) ms) ≡ struck_by n v b (drop i ms)
-  struck_by-more b c ms i d lt is = ap (λ x. struck_by n v x (drop (i + 1) ms)) is ∙ sym (at_drop_more (struck_by n v b) ms i d lt)

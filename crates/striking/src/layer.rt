@@ -1,5 +1,6 @@
 // The striking layer: a sheet with a set of struck candidates.
-ghost use Rattle.std.specs.Prelude.{◌≡◌, [], MatchResult};
+ghost use Rattle.std.specs.Prelude.{◌≡◌, [], if◌then◌else◌, nat_lt, Ok, Err, MatchResult};
+ghost use Rattle.striking.specs.declared.fault.StrikeFault.TheVariants.{Outside};
 ghost use Rattle.candidates.specs.Members.{members};
 ghost use Rattle.candidates.specs.Sets.{is_in, inserted, removed};
 ghost use Rattle.striking.specs.Judged.{strike_judged, restore_judged};
@@ -45,16 +46,24 @@ impl<S> Struck<S> {
 }
 
 impl<S: Sheet> Struck<S> {
+    // Whether the candidate v is struck.
+    fn candidate_is_struck(&self, v: usize) -> Result<bool, StrikeFault>
+        ensures { result ≡ (if nat_lt v (S.Sheet.meaning self.now.sheet).size then Ok (is_in v (members self.now.struck)) else Err Outside) }
+    {
+        if v < self.sheet.size() {
+            Ok(self.is_struck(v))
+        } else {
+            Err(StrikeFault::Outside)
+        }
+    }
+
     // Adds v to the struck set. A refusal changes nothing.
     pub fn strike(&mut self, v: usize) -> Result<(), StrikeFault>
         ensures value { result ≡ strike_judged (S.Sheet.meaning self.old.sheet).size (members self.old.struck) v }
         ensures after { MatchResult result (λ _. members self.new.struck ≡ inserted v (members self.old.struck)) (λ _. self.new ≡ self.old) }
         ensures below { self.new.sheet ≡ self.old.sheet }
     {
-        if v >= self.sheet.size() {
-            return Err(StrikeFault::Outside);
-        }
-        if self.is_struck(v) {
+        if self.candidate_is_struck(v)? {
             return Err(StrikeFault::AlreadyStruck);
         }
         self.struck = self.struck.with(v);
@@ -67,10 +76,7 @@ impl<S: Sheet> Struck<S> {
         ensures after { MatchResult result (λ _. members self.new.struck ≡ removed v (members self.old.struck)) (λ _. self.new ≡ self.old) }
         ensures below { self.new.sheet ≡ self.old.sheet }
     {
-        if v >= self.sheet.size() {
-            return Err(StrikeFault::Outside);
-        }
-        if !self.is_struck(v) {
+        if !self.candidate_is_struck(v)? {
             return Err(StrikeFault::NotStruck);
         }
         self.struck = self.struck.without(v);

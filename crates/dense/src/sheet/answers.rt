@@ -15,22 +15,18 @@ impl Sheet for DenseSheet {
     }
 
     fn fits(&self, u: usize, v: usize) -> bool {
-        u < 256 && self.rows[u].contains(v)
+        self.rows.get(u).is_some_and(|row| row.contains(v))
     }
 
     fn points(&self, u: usize, v: usize) -> Points {
         if u < 256 && v < 256 {
-            self.points[256 * u + v] as Points
+            Points::from(self.points[256 * u + v])
         } else {
             0
         }
     }
 
     fn fitting(&self, v: usize) -> CandidateSet {
-        if v < 256 {
-            self.rows[v]
-        } else {
-            CandidateSet::empty()
-        }
+        self.rows.get(v).copied().unwrap_or(CandidateSet::empty())
     }
 }
