@@ -27,7 +27,7 @@ pub trait Rule {
         ensures { let m = S.Sheet.meaning sheet.now in result ≡ over limit (value self.now m (inside_of m (members c)) (inside_of m (members s))) }
     {
         let number = self.number(sheet, c, s);
-        if number <= limit { None } else { Some(number) }
+        (number > limit).then_some(number)
     }
 }
 
