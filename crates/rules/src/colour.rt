@@ -57,8 +57,7 @@ fn raise<S: Sheet>(sheet: &S, class: CandidateSet, left: CandidateSet, sigma: &m
     ensures { at sigma.new ≡ raised (S.Sheet.meaning sheet.now) (members class) (members left) (at sigma.old) }
 {
     for v in left.iter() {
-        let risen = sigma.get(v) + rise(sheet, class, v);
-        sigma.note(v, risen);
+        sigma.add(v, rise(sheet, class, v));
     }
 }
 

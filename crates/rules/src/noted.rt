@@ -1,5 +1,5 @@
 // A number noted for each candidate.
-ghost use Rattle.std.specs.Prelude.{◌≡◌, ◌<◌};
+ghost use Rattle.std.specs.Prelude.{◌≡◌, ◌+◌, ◌^◌, ◌<◌};
 ghost use Rattle.candidates.specs.Members.{members};
 ghost use Rattle.rules.specs.Greatest.{greatest};
 ghost use Rattle.rules.specs.Least.{least_of};
@@ -30,6 +30,14 @@ impl Noted {
         ensures { at self.new ≡ noted v number (at self.old) }
     {
         self.0[v] = number;
+    }
+
+    pub(crate) fn add(&mut self, v: usize, more: u64)
+        requires place { v < 256 }
+        requires room { at self.old v + more < 2 ^ 64 }
+        ensures { at self.new ≡ noted v (at self.old v + more) (at self.old) }
+    {
+        self.0[v] += more;
     }
 
     // The greatest number of a member, 0 where the set is empty.

@@ -13,14 +13,11 @@ use Rattle.rules.specs.ColourBounds.{raised-le}
 use Rattle.rules.specs.Noted.{at, noted}
 use Rattle.rules.proofs.colour.raise.Goals as goal
 
-pub get-requires : goal.get-requires
-get-requires g c = next-below _ _ _ c.in-Some.ensures.steps
+pub add-requires-clause-place : goal.add-requires-clause-place
+add-requires-clause-place g c = next-below _ _ _ c.in-Some.ensures.steps
 
-pub note-requires : goal.note-requires
-note-requires g c = next-below _ _ _ c.in-Some.ensures.steps
-
-pub overflow_add-risen : goal.overflow_add-risen
-overflow_add-risen g c =
+pub add-requires-clause-room : goal.add-requires-clause-room
+add-requires-clause-room g c =
     let m = g.S.Sheet.meaning c.args.sheet.now in
     let K = members c.args.class in
     let σ = at c.loop-v.sigma in
@@ -52,7 +49,7 @@ loop-v-preserved g c =
     let v = c.in-Some.v in
     let rest = remaining c.next.new.self in
     let next = c.in-Some.ensures.steps in
-    ap (raised m K rest) (c.note.ensures ∙ (λ i. noted v (c.get.ensures i + c.rise.ensures i) σ))
+    ap (raised m K rest) (c.add.ensures ∙ ap (λ x. noted v (σ v + x) σ) c.rise.ensures)
     ∙ raised-more m K σ v rest (next-once _ _ _ next)
     ∙ ap (λ l. raised m K l σ) (sym next)
     ∙ c.loop-v.invariant
