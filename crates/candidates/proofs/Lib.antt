@@ -1,4 +1,5 @@
 pub mod Bits
+pub mod Chains
 pub mod Marks
 pub mod Order
 pub mod Sets

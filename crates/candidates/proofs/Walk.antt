@@ -117,7 +117,7 @@ remaining-taken s t four narrow some words place word =
 
 -- ---- what a walk gives: numbers below 256, each once
 
-remaining-below : (s : Members) (k : ℕ) → is_in k (remaining s) ≡ true → k < 256
+pub remaining-below : (s : Members) (k : ℕ) → is_in k (remaining s) ≡ true → k < 256
 remaining-below s k e = ⊎_elim (λ h. h) (λ h. absurd (both_ways (is_in k (remaining s)) (remaining-outside s k h) e)) (cases_lt k 256)
 
 pub next-below : (s t : Members) (v : ℕ) → remaining s ≡ v ∷ remaining t → v < 256

@@ -1,8 +1,8 @@
 // The start of a walk and its steps.
-ghost use Rattle.std.specs.Prelude.{◌≡◌, [], ◌∷◌, length, MatchOption};
+ghost use Rattle.std.specs.Prelude.{◌≡◌};
 ghost use Rattle.candidates.specs.Members.{members};
 ghost use Rattle.candidates.specs.Walk.{remaining};
-ghost use Rattle.std.specs.Iterator.{at_most};
+ghost use Rattle.std.specs.Iterator.{YieldsFirst, item_count};
 
 use crate::cursor::Members;
 use crate::set::CandidateSet;
@@ -23,9 +23,9 @@ impl CandidateSet {
 impl Iterator for Members {
     type Item = usize;
 
-    ghost next_gives = { λ s r t. MatchOption r (remaining s ≡ []) (λ v. remaining s ≡ v ∷ remaining t) };
+    ghost next_gives = { YieldsFirst remaining };
 
-    ghost remaining = { λ s. at_most (length (remaining s)) };
+    ghost remaining = { item_count remaining };
 
     fn next(&mut self) -> Option<usize> {
         while self.word == 0 {

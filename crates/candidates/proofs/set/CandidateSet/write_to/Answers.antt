@@ -26,7 +26,7 @@ returns c =
     let buffer = c.args.buffer.now in
     let begun = ap remaining c.into_iter-v-iterator.ensures.into_iter_gives ∙ c.iter-v-items.ensures in
     let room : leb (length list) (length buffer) ≡ true = le-leb (length list) (length buffer) (omega (arith, c.count-count.ensures, c.if-count-buffer.false)) in
-    let whole = sym (filled_none l.buffer l.place) ∙ ap (filled l.buffer l.place) (sym c.in-None.ensures.steps) ∙ l.invariant.1 ∙ ap (filled buffer 0) begun ∙ filled-all buffer list in
+    let whole = sym (filled_none l.buffer l.place) ∙ ap (filled l.buffer l.place) (sym c.in-None.ensures.steps.0) ∙ l.invariant.1 ∙ ap (filled buffer 0) begun ∙ filled-all buffer list in
     record {
       value = ap Some c.count-count.ensures ∙ sym (cond-true (leb (length list) (length buffer)) (Some (length list)) None room);
       after = whole ∙ sym (cond-true (leb (length list) (length buffer)) (list ++ drop (length list) buffer) buffer room);

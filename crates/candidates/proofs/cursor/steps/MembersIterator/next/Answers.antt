@@ -4,10 +4,9 @@ use Rattle.candidates.proofs.cursor.steps.MembersIterator.next.Goals as goal
 use Rattle.std.proofs.iter.Next.{firm}
 
 pub returns-then-self-eq3 : goal.returns-then-self-eq3
-returns-then-self-eq3 c = record {
-  steps = sym c.loop-self.invariant.0 ∙ remaining-none c.loop-self.self c.loop-self.invariant.1 c.loop-self-test.true c.if-self-eq3.true;
-  goes = firm (tt) (λ h. search rules);
-}
+returns-then-self-eq3 c =
+    let none = remaining-none c.loop-self.self c.loop-self.invariant.1 c.loop-self-test.true c.if-self-eq3.true in
+    record { steps = (sym c.loop-self.invariant.0 ∙ none, none); goes = firm (tt) (λ h. search rules) }
 
 pub loop-self-preserved : goal.loop-self-preserved
 loop-self-preserved c = (remaining-on c.loop-self.self _ c.loop-self.invariant.1 c.loop-self-test.true refl refl refl ∙ c.loop-self.invariant.0, c.loop-self.invariant.1, omega arith)
