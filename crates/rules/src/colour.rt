@@ -44,11 +44,7 @@ fn class_of<S: Sheet>(sheet: &S, sigma: &Noted, left: CandidateSet) -> Candidate
 fn rise<S: Sheet>(sheet: &S, class: CandidateSet, v: usize) -> u64
     ensures { result ≡ rise_of (S.Sheet.meaning sheet.now) (members class) v }
 {
-    let mut most: u64 = 0;
-    for u in class.iter() {
-        most = most.max(sheet.points(u, v));
-    }
-    most
+    class.iter().map(|u| sheet.points(u, v)).max().unwrap_or(0)
 }
 
 // Raises σ for each that a class leaves. It has room: it is at most 512 times the most points of two.

@@ -44,23 +44,13 @@ impl Noted {
     pub(crate) fn greatest(&self, set: CandidateSet) -> u64
         ensures { result ≡ greatest (at self.now) (members set) }
     {
-        let mut most: u64 = 0;
-        for u in set.iter() {
-            most = most.max(self.get(u));
-        }
-        most
+        set.iter().map(|v| self.get(v)).max().unwrap_or(0)
     }
 
     // The member with the least number, the lowest on a tie.
     pub(crate) fn least(&self, set: CandidateSet) -> Option<usize>
         ensures { result ≡ least_of (at self.now) (members set) }
     {
-        let mut least = set.lowest()?;
-        for v in set.iter() {
-            if self.get(v) < self.get(least) {
-                least = v;
-            }
-        }
-        Some(least)
+        set.iter().min_by_key(|v| self.get(*v))
     }
 }

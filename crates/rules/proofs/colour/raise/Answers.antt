@@ -58,4 +58,4 @@ pub returns : goal.returns
 returns g c =
     let rising = raised (g.S.Sheet.meaning c.args.sheet.now) (members c.args.class) in
     let begun = ap remaining c.into_iter-v-iterator.ensures.into_iter_gives ∙ c.iter-v-items.ensures in
-    ap (λ l. rising l (at c.loop-v.sigma)) (sym c.in-None.ensures.steps) ∙ c.loop-v.invariant ∙ ap (λ l. rising l (at c.args.sigma.now)) begun
+    ap (λ l. rising l (at c.loop-v.sigma)) (sym c.in-None.ensures.steps.0) ∙ c.loop-v.invariant ∙ ap (λ l. rising l (at c.args.sigma.now)) begun

@@ -30,4 +30,4 @@ returns g c =
     let m = g.S.Sheet.meaning c.args.sheet.now in
     let C = members c.args.c in
     let begun = ap remaining c.into_iter-v-iterator.ensures.into_iter_gives ∙ c.iter-v-items.ensures in
-    ap (λ l. filled (rho m C) l (at c.loop-v.sigma)) (sym c.in-None.ensures.steps) ∙ c.loop-v.invariant ∙ ap (started m C) begun
+    ap (λ l. filled (rho m C) l (at c.loop-v.sigma)) (sym c.in-None.ensures.steps.0) ∙ c.loop-v.invariant ∙ ap (started m C) begun
