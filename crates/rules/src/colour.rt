@@ -2,7 +2,7 @@
 ghost use Rattle.std.specs.Prelude.{◌≡◌, ℕ, length};
 ghost use Rattle.candidates.specs.Members.{has, members};
 ghost use Rattle.candidates.specs.Sets.{is_in};
-ghost use Rattle.rules.specs.Bounds.{inside as inside_of};
+ghost use Rattle.rules.specs.Bounds.{inside as inside_of, number_inside};
 ghost use Rattle.rules.specs.Colour.{Partition, class_of, classes, colour as colour_of, coloured as coloured_by, raised, rise as rise_of, started as started_by, sum_of_highest};
 ghost use Rattle.rules.specs.ColourBounds.{colour-bounds};
 ghost use Rattle.rules.specs.Noted.{AtMost, at};
@@ -76,7 +76,7 @@ fn coloured<S: Sheet>(sheet: &S, mut sigma: Noted, s: CandidateSet) -> u64
 impl Colour {
     // The sum, over the classes that s falls into, of the greatest σ in each.
     pub fn sum_of_highest<S: Sheet>(sheet: &S, c: CandidateSet, s: CandidateSet) -> u64
-        ensures value { let m = S.Sheet.meaning sheet.now in result ≡ colour_of m (inside_of m (members c)) (inside_of m (members s)) }
+        ensures value { result ≡ number_inside colour_of (S.Sheet.meaning sheet.now) (members c) (members s) }
         ensures classes { let m = S.Sheet.meaning sheet.now in Partition m (inside_of m (members s)) (classes m (inside_of m (members c)) (inside_of m (members s))) }
     {
         let c = inside(sheet, c);
