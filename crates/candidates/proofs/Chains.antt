@@ -1,21 +1,27 @@
 -- Chains of iterators over a set: what they come to, as a function of the list of members. Assumes nothing.
 -- `t` is that function: each lemma takes what it is at the empty list and at a first member, mostly `refl` and `λ _ _. refl`.
-use Rattle.std.proofs.Common.{◌≡◌, ℕ, ◌+◌, ◌<◌, max, Bool, true, false, ◌&&◌, zero, suc, List, [], ◌∷◌, length, get_or, map, Option, sym, ap, ◌∙◌, arith}
+use Rattle.std.proofs.Common.{◌≡◌, ℕ, ◌+◌, ◌<◌, max, cond, ltb, Bool, true, false, ◌&&◌, zero, suc, List, [], ◌∷◌, length, get_or, map, Option, Some, None, subst, refl, sym, ap, ◌∙◌, arith}
 use denote.Param.Members.{Mut}
 use Rattle.std.specs.Bool.{⊤}
-use Rattle.std.specs.Fn.{Called}
-use Rattle.std.specs.Iterator.{CallableAtEachTurn, YieldsFirst, YieldsThen, Drains, PicksByCmp}
+use Rattle.std.specs.Fn.{Called, CalledAt, TakesAt}
+use denote.Ref.{Bor}
+use Rattle.std.specs.declared.cmp.Ordering.{Ordering}
+use Rattle.std.specs.Iterator.{CallableAtEachTurn, KeyTurn, PicksMinByKey, CallableInMinByKey, YieldsFirst, YieldsThen, Drains, DrainsIf, PicksByCmp}
 use Rattle.std.specs.Iterator.Adapters.{map_source, map_callee}
 use Rattle.std.specs.Iterator.Runs.{EachRunFrom}
 use Rattle.std.specs.List.{FoldsTo, fold, sum_by, list_all, reduce}
 use Rattle.std.specs.Option.{MatchOption, unwrap_or}
-use Rattle.std.specs.Ordering.{nat_cmp, max_by_ordering}
+use Rattle.std.specs.Ordering.{nat_cmp, max_by_ordering, min_by_ordering}
 use Rattle.std.specs.declared.iter.Map.{Map}
-use Rattle.std.proofs.lemmas.Iterator.{YieldsList, YieldsList-from_map, maps}
+use Rattle.std.proofs.lemmas.Iterator.{YieldsList, YieldsList-from_map, maps, items_from_drains}
 use Rattle.std.proofs.lemmas.Iterator.Adapters.{serves_from_places, option_map_id}
-use Rattle.std.proofs.lemmas.Iterator.Consumers.{YieldsList-from_first, YieldsList-at, sum_by_from_yields_List, fits_by_from_yields_list, max_from_yields_List}
+use Rattle.std.proofs.lemmas.Iterator.Consumers.{YieldsList-from_first, YieldsList-at, YieldsList-turn, sum_by_from_yields_List, fits_by_from_yields_list, max_from_yields_List}
 use Rattle.std.proofs.lemmas.Iterator.Search.{all_from_yields_List}
 use Rattle.std.proofs.lemmas.List.Sums.{sum_by-cons}
+use Rattle.std.proofs.lemmas.Cmp.{ranked}
+use Rattle.std.specs.declared.cmp.Ordering.TheVariants.{Less, Equal, Greater}
+use Rattle.std.proofs.lemmas.Bool.{cond-true, cond-false, lt-ltb, le-ltb}
+use Rattle.std.proofs.lemmas.List.{map-id}
 use Rattle.candidates.specs.declared.cursor.Members.{Members}
 use Rattle.candidates.specs.Sets.{is_in}
 use Rattle.candidates.specs.Walk.{remaining}
@@ -75,3 +81,52 @@ pub serves-from_members : {F : Type 0} {R : F → ℕ → F → Type 0} {Q : F �
 serves-from_members {s = s} xs e stays asked =
     serves_from_places (YieldsList-from_members xs e) stays
     (λ x k h is. let inside = at-place xs k h x is in asked x inside (remaining-below s x (ap (is_in x) e ∙ inside)))
+
+drained : (s : Members) (xs : List ℕ) → Drains (YieldsFirst remaining) s xs → DrainsIf (YieldsFirst remaining) (Unit {0}) s xs
+drained s xs d = (d.1.0, d.1.1, λ _. (d.0, d.1.2))
+
+-- ---- `.min_by_key(key)`: `best b xs` is the one of least key among b and those of xs, the first on a tie
+module _ {F : Type 0} {g : Mut F (Bor ℕ × Unit {0}) ℕ} {f : F} (key : ℕ → ℕ) (best : ℕ → List ℕ → ℕ)
+    (computes : (x k : ℕ) (q : F) → CalledAt g f x k q → (q ≡ f) × (k ≡ key x)) where
+  lesser : (x b j k : ℕ) (o : Ordering) → nat_cmp k (key x) ≡ o → k ≡ key b → j ≡ min_by_ordering o b x → j ≡ cond (ltb (key x) (key b)) x b
+  lesser x b j k Less is same picked = let r = ranked k (key x) Less (sym is) in picked ∙ sym (cond-false _ x b (le-ltb (key x) (key b) (omega (arith, r, same))))
+  lesser x b j k Equal is same picked = let r = ranked k (key x) Equal (sym is) in picked ∙ sym (cond-false _ x b (le-ltb (key x) (key b) (omega (arith, r, same))))
+  lesser x b j k Greater is same picked = let r = ranked k (key x) Greater (sym is) in picked ∙ sym (cond-true _ x b (lt-ltb (key x) (key b) (omega (arith, r, same))))
+
+  -- the key is the one of the number beside it
+  kept : (x b j k l m : ℕ) (o : Ordering) → k ≡ key b → l ≡ key x → j ≡ min_by_ordering o b x → m ≡ min_by_ordering o k l → m ≡ key j
+  kept x b j k l m Less is new picked taken = taken ∙ is ∙ ap key (sym picked)
+  kept x b j k l m Equal is new picked taken = taken ∙ is ∙ ap key (sym picked)
+  kept x b j k l m Greater is new picked taken = taken ∙ new ∙ ap key (sym picked)
+
+  best-folds : ((b : ℕ) → best b [] ≡ b) → ((b x : ℕ) (xs : List ℕ) → best b (x ∷ xs) ≡ best (cond (ltb (key x) (key b)) x b) xs)
+      → (p q : (F × ℕ) × ℕ) (xs : List ℕ) → p.0.0 ≡ f → p.0.1 ≡ key p.1 → FoldsTo {P = (F × ℕ) × ℕ} (KeyTurn min_by_ordering min_by_ordering g nat_cmp) p xs q → q.1 ≡ best p.1 xs
+  best-folds none more p q [] at is c = ap (λ e. e.1) (sym c) ∙ sym (none p.1)
+  best-folds none more p q (x ∷ xs) at is (j, (k, o, called, cmp, taken, picked), rest) =
+      let says = computes x k j.0.0 (subst (λ e. CalledAt g e x k j.0.0) at called) in
+      let low = lesser x p.1 j.1 p.0.1 o (ap (nat_cmp p.0.1) (sym says.1) ∙ cmp) is picked in
+      best-folds none more j q xs says.0 (kept x p.1 j.1 p.0.1 k j.0.1 o is says.1 picked taken) rest ∙ ap (λ b. best b xs) low ∙ sym (more p.1 x xs)
+
+  pub min_by_key-from_members : (t : List ℕ → Option ℕ) (s : Members) (r : Option ℕ) → PicksMinByKey (YieldsFirst remaining) g nat_cmp s f r → (xs : List ℕ) → remaining s ≡ xs → t [] ≡ None → ((x : ℕ) (xs : List ℕ) → t (x ∷ xs) ≡ Some (best x xs)) → ((b : ℕ) → best b [] ≡ b) → ((b x : ℕ) (xs : List ℕ) → best b (x ∷ xs) ≡ best (cond (ltb (key x) (key b)) x b) xs) → r ≡ t xs
+  min_by_key-from_members t s None ran xs e nothing first none more = sym nothing ∙ ap t (items_from_drains [] (drained s [] ran) (YieldsList-from_members xs e))
+  min_by_key-from_members t s (Some y) (x, zs, k, h, q, drains, called, folds) xs e nothing first none more =
+      let says = computes x k h called in
+      ap Some (best-folds none more ((h, k), x) (q, y) zs says.0 says.1 folds) ∙ sym (first x zs) ∙ ap t (sym (map-id (x ∷ zs)) ∙ items_from_drains (x ∷ zs) (drained s (x ∷ zs) drains) (YieldsList-from_members xs e))
+
+-- what `min_by_key` requires
+module _ {F : Type 0} {g : Mut F (Bor ℕ × Unit {0}) ℕ} {f : F} (stays : (x k : ℕ) (q : F) → CalledAt g f x k q → q ≡ f) where
+  unchanged : (p q : (F × ℕ) × ℕ) (xs : List ℕ) → p.0.0 ≡ f → FoldsTo {P = (F × ℕ) × ℕ} (KeyTurn min_by_ordering min_by_ordering g nat_cmp) p xs q → q.0.0 ≡ f
+  unchanged p q [] at c = ap (λ e. e.0.0) (sym c) ∙ at
+  unchanged p q (x ∷ xs) at (j, (k, o, called, cmp, taken, picked), rest) = unchanged j q xs (stays x k j.0.0 (subst (λ e. CalledAt g e x k j.0.0) at called)) rest
+
+  pub serves_by_key-from_members : (s : Members) (xs : List ℕ) → remaining s ≡ xs → ((x : ℕ) → is_in x xs ≡ true → x < 256 → TakesAt g f x) → CallableInMinByKey (YieldsFirst remaining) g nat_cmp s f
+  serves_by_key-from_members s xs e asked x t first =
+      let ask = λ (y : ℕ) (inside : is_in y (remaining s) ≡ true). asked y (ap (is_in y) (sym e) ∙ inside) (remaining-below s y inside) in (
+        ask x (ap (is_in x) first ∙ in-first x (remaining t)),
+        λ k h called. record {
+          at = λ ys u q y v yields folds steps.
+              let turn = YieldsList-turn (YieldsList-from_members (remaining t) refl) ys u yields (Some y) v y refl steps in
+              subst (λ p. TakesAt g p y) (sym (unchanged ((h, k), x) q ys (stays x k h called) folds))
+              (ask y (ap (is_in y) first ∙ in_rest y x (remaining t) (at-place (remaining t) _ turn.0 y turn.1)));
+        },
+      )

@@ -6,8 +6,9 @@ use Rattle.candidates.specs.Sets.{is_in, removed, without}
 use Rattle.candidates.proofs.Sets.{kept-by-same, sub-kept-by, length-sub}
 use Rattle.sheets.specs.Meaning.{Meaning}
 use Rattle.rules.specs.Greatest.{greatest, le-greatest, greatest-le}
-use Rattle.rules.specs.Colour.{least_by, least_of, joinable, class, class_of, raised, coloured, sum_of_highest}
-use Rattle.rules.specs.Classes.{least_by-in, length-kept-by-less, length-left}
+use Rattle.rules.specs.Least.{least_by, least_of, least_by-in}
+use Rattle.rules.specs.Colour.{joinable, class, class_of, raised, coloured, sum_of_highest}
+use Rattle.rules.specs.Classes.{length-kept-by-less, length-left}
 
 -- ---- the one of least σ
 

@@ -1,14 +1,12 @@
 -- The lengths of the path rule, one member after another.
-use Rattle.std.proofs.Common.{◌≡◌, ℕ, suc, ◌<◌, max, true, List, [], ◌∷◌, ◌++◌, length, set, replicate, sym, ap, ◌∙◌, arith}
-use mathlib.Core.Path.{fun_ext}
+use Rattle.std.proofs.Common.{◌≡◌, ℕ, suc, ◌<◌, max, true, List, [], ◌∷◌, ◌++◌, ap, ◌∙◌, arith}
 use Rattle.std.proofs.lemmas.Bool.{false≢true}
 use Rattle.std.proofs.lemmas.Bool.Decides.{nat_tests}
 use Rattle.candidates.specs.Sets.{is_in, Ascending, From, inserted}
 use Rattle.candidates.proofs.Sets.{in-first, in-from, inserted-last, is_in-append}
 use Rattle.sheets.specs.Meaning.{Meaning}
-use Rattle.rules.specs.Arrays.{at}
-use Rattle.rules.specs.Path.{length_of, noted, longest, path}
-use Rattle.rules.proofs.Arrays.{at-zeros, at_set}
+use Rattle.rules.specs.Noted.{noted}
+use Rattle.rules.specs.Path.{length_of, longest}
 
 lower-below : (a k v : ℕ) (lower higher : List ℕ) → From a (lower ++ v ∷ higher) → is_in k lower ≡ true → k < v
 lower-below a k v [] higher up e = absurd (false≢true e)
@@ -22,12 +20,6 @@ lower-below a k v (x ∷ lower) higher up e =
 -- the next member goes behind the lower ones
 pub inserted-next : (v : ℕ) (lower higher : List ℕ) → Ascending (lower ++ v ∷ higher) → inserted v lower ≡ lower ++ v ∷ []
 inserted-next v lower higher up = inserted-last v lower (λ k. lower-below 0 k v lower higher up)
-
-pub noted-at : (xs : List ℕ) (v x : ℕ) → v < length xs → noted v x (at xs) ≡ at (set xs v x)
-noted-at xs v x h = fun_ext (λ k. sym (at_set xs v x k h))
-
-pub longest-none : (m : Meaning) (C S lower : List ℕ) (n : ℕ) → lower ≡ [] → max 0 (longest m C lower (at (replicate n 0)) S) ≡ path m C S
-longest-none m C S lower n none = (λ i. max 0 (longest m C (none i) (at-zeros n i) S)) ∙ omega arith
 
 pub longest-more : (m : Meaning) (C lower : List ℕ) (ℓ : ℕ → ℕ) (v : ℕ) (higher : List ℕ) (most x : ℕ) → x ≡ length_of m C lower ℓ v → max (max most x) (longest m C (lower ++ v ∷ []) (noted v x ℓ) higher) ≡ max most (longest m C lower ℓ (v ∷ higher))
 longest-more m C lower ℓ v higher most x is = ap (λ y. max (max most y) (longest m C (lower ++ v ∷ []) (noted v y ℓ) higher)) is ∙ omega arith

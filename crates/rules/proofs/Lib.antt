@@ -1,4 +1,4 @@
-pub mod Arrays
 pub mod Colouring
 pub mod Inside
+pub mod Notes
 pub mod Lengths

@@ -18,6 +18,10 @@ pub record Candidates (m : Meaning) (S : List ℕ) : Type 0 where
 abbrev pub inside : Meaning → List ℕ → List ℕ
 inside m xs = filter (λ k. nat_lt k m.size) xs
 
+-- the number of a rule at what of both sets is inside
+abbrev pub number_inside : Number → Number
+number_inside number m C S = number m (inside m C) (inside m S)
+
 -- At least the gain over C of every clique within S, and never more than 2 ^ 40 - 1.
 pub record Bounds (number : Number) : Type 0 where
   pub covers : (m : Meaning) → Lawful m → (C S F : List ℕ) → Candidates m C → Candidates m S → Clique m F → Within F S → gain m C F ≤ number m C S

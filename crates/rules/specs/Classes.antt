@@ -5,17 +5,8 @@ use Rattle.std.proofs.lemmas.Bool.{or_left, or_cases, and_from, and_parts, not-t
 use Rattle.candidates.specs.Sets.{is_in, Within, removed, without}
 use Rattle.candidates.proofs.Sets.{in-first, in_rest, is_in-kept-by, sub-kept-by, length-sub}
 use Rattle.sheets.specs.Meaning.{Meaning, Lawful}
-use Rattle.rules.specs.Colour.{started, least_by, joinable, class, class_of, raised, coloured, classes, Independent, Partition}
-
-pub least_by-in : (σ : ℕ → ℕ) (v : ℕ) (xs : List ℕ) → is_in (least_by σ v xs) (v ∷ xs) ≡ true
-least_by-in σ v [] = in-first v []
-least_by-in σ v (x ∷ xs) =
-    cond_both (nat_lt (σ x) (σ v)) x v (λ y. is_in (least_by σ y xs) (v ∷ x ∷ xs) ≡ true)
-    (λ _. in_rest (least_by σ x xs) v (x ∷ xs) (least_by-in σ x xs))
-    (λ _. let k = least_by σ v xs in elim (or_cases (k == v) (is_in k xs) (least_by-in σ v xs)) [
-      | inl same ↦ or_left (k == v) (is_in k (x ∷ xs)) same
-      | inr more ↦ in_rest k v (x ∷ xs) (in_rest k x xs more)
-    ])
+use Rattle.rules.specs.Least.{least_by, least_by-in}
+use Rattle.rules.specs.Colour.{started, joinable, class, class_of, raised, coloured, classes, Independent, Partition}
 
 in-joinable : (m : Meaning) (v k : ℕ) (xs : List ℕ) → is_in k (joinable m v xs) ≡ true → (m.fit v k ≡ false) × (is_in k xs ≡ true)
 in-joinable m v k xs e =

@@ -1,24 +1,15 @@
 -- The colour rule: S falls into classes in which no two fit, so that a clique has at most one member of each.
-use Rattle.std.specs.Prelude.{◌≡◌, ℕ, zero, suc, ◌+◌, true, false, cond, not, List, [], ◌∷◌, map, length, Some, None, filter, Option, nat_lt, slice_index_or}
+use Rattle.std.specs.Prelude.{◌≡◌, ℕ, zero, suc, ◌+◌, true, false, cond, not, List, [], ◌∷◌, map, length, filter, slice_index_or}
 use Rattle.candidates.specs.Sets.{is_in, removed, without}
 use Rattle.sheets.specs.Meaning.{Meaning}
 use Rattle.sheets.specs.Weights.{rho}
 use Rattle.rules.specs.Bounds.{Number}
 use Rattle.rules.specs.Greatest.{greatest}
+use Rattle.rules.specs.Least.{least_by}
 
 -- σ at the start: ρ(C, v) for each v in S
 abbrev pub started : Meaning → List ℕ → List ℕ → ℕ → ℕ
 started m C S v = cond (is_in v S) (rho m C v) 0
-
--- the one of least σ among v and those of xs, the first on a tie
-abbrev pub least_by : (ℕ → ℕ) → ℕ → List ℕ → ℕ
-least_by σ v [] = v
-least_by σ v (x ∷ xs) = least_by σ (cond (nat_lt (σ x) (σ v)) x v) xs
-
--- the one of least σ in a set; an empty set has none
-abbrev pub least_of : (ℕ → ℕ) → List ℕ → Option ℕ
-least_of σ [] = None
-least_of σ (x ∷ xs) = Some (least_by σ x xs)
 
 -- those that can still join a class when v has joined it
 abbrev pub joinable : Meaning → ℕ → List ℕ → List ℕ

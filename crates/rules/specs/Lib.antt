@@ -1,7 +1,8 @@
-pub mod Arrays
 pub mod Bounds
 pub mod Sums
 pub mod Greatest
+pub mod Least
+pub mod Noted
 pub mod Flat
 pub mod FlatBounds
 pub mod Lesser

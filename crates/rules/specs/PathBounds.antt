@@ -14,7 +14,8 @@ use Rattle.sheets.proofs.Cliques.{clique-head, clique-tail}
 use Rattle.rules.specs.Bounds.{Bounds, Candidates}
 use Rattle.rules.specs.Greatest.{greatest, le-greatest, greatest-le}
 use Rattle.rules.specs.Sums.{length-candidates, rho-candidates, total-raised}
-use Rattle.rules.specs.Path.{length_of, noted, longest, path}
+use Rattle.rules.specs.Noted.{noted}
+use Rattle.rules.specs.Path.{length_of, longest, path}
 
 abbrev Below : ℕ → List ℕ → Type 0
 Below a xs = (k : ℕ) → is_in k xs ≡ true → k < a

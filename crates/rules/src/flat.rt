@@ -17,11 +17,7 @@ pub struct Flat;
 fn between<S: Sheet>(sheet: &S, c: CandidateSet, s: CandidateSet) -> Points
     ensures { result ≡ total (rho_of (S.Sheet.meaning sheet.now) (members c)) (members s) }
 {
-    let mut sum = 0;
-    for v in s.iter() {
-        sum += rho(sheet, c, v);
-    }
-    sum
+    s.iter().map(|v| rho(sheet, c, v)).sum()
 }
 
 impl Rule for Flat {

@@ -3,8 +3,8 @@
 
 pub mod colour;
 pub mod flat;
-mod greatest;
 pub mod lesser;
+mod noted;
 pub mod numbers;
 pub mod path;
 pub mod rule;

@@ -1,11 +1,11 @@
 // The path rule: the longest path upwards through the set.
 ghost use Rattle.std.specs.Prelude.{◌≡◌, ◌^◌, ◌<◌};
 ghost use Rattle.candidates.specs.Members.{members};
-ghost use Rattle.rules.specs.Arrays.{at};
+ghost use Rattle.rules.specs.Noted.{at};
 ghost use Rattle.rules.specs.Path.{length_of, path as path_of};
 ghost use Rattle.rules.specs.PathBounds.{path-bounds};
 
-use crate::greatest::greatest_of;
+use crate::noted::Noted;
 use crate::rule::{Rule, inside};
 use candidates::set::CandidateSet;
 use sheets::sheet::Sheet;
@@ -19,14 +19,14 @@ fn length_of<S: Sheet>(
     sheet: &S,
     c: CandidateSet,
     lower: CandidateSet,
-    lengths: &[u64; 256],
+    lengths: &Noted,
     v: usize,
 ) -> u64
     requires { length_of (S.Sheet.meaning sheet.now) (members c) (members lower) (at lengths.now) v < 2 ^ 64 }
     ensures { result ≡ length_of (S.Sheet.meaning sheet.now) (members c) (members lower) (at lengths.now) v }
 {
     let fitting = lower.meet(sheet.fitting(v));
-    rho(sheet, c, v) + rho(sheet, lower, v) + greatest_of(lengths, fitting)
+    rho(sheet, c, v) + rho(sheet, lower, v) + lengths.greatest(fitting)
 }
 
 // The greatest length of a member.
@@ -34,12 +34,12 @@ fn longest<S: Sheet>(sheet: &S, c: CandidateSet, s: CandidateSet) -> u64
     requires { path_of (S.Sheet.meaning sheet.now) (members c) (members s) < 2 ^ 64 }
     ensures { result ≡ path_of (S.Sheet.meaning sheet.now) (members c) (members s) }
 {
-    let mut lengths = [0; 256];
+    let mut lengths = Noted::zeros();
     let mut lower = CandidateSet::empty();
     let mut most: u64 = 0;
     for v in s.iter() {
         let length = length_of(sheet, c, lower, &lengths, v);
-        lengths[v] = length;
+        lengths.note(v, length);
         lower = lower.with(v);
         most = most.max(length);
     }

@@ -1,7 +1,7 @@
 // A rule bounds what a set of candidates can still gain. (An upper bound for branch and bound.)
 ghost use Rattle.std.specs.Prelude.{◌≡◌};
 ghost use Rattle.candidates.specs.Members.{members};
-ghost use Rattle.rules.specs.Bounds.{Bounds, Candidates, Number, inside as inside_of, over};
+ghost use Rattle.rules.specs.Bounds.{Bounds, Candidates, Number, inside as inside_of, number_inside, over};
 
 use candidates::set::CandidateSet;
 use sheets::sheet::Sheet;
@@ -14,7 +14,7 @@ pub trait Rule {
 
     // The number for the clique c and the set s of those that may join it; marks that are no candidates don't count.
     fn number<S: Sheet>(&self, sheet: &S, c: CandidateSet, s: CandidateSet) -> u64
-        ensures { let m = S.Sheet.meaning sheet.now in result ≡ value self.now m (inside_of m (members c)) (inside_of m (members s)) };
+        ensures { result ≡ number_inside (value self.now) (S.Sheet.meaning sheet.now) (members c) (members s) };
 
     // The number where it is above the limit.
     fn above<S: Sheet>(
@@ -24,10 +24,10 @@ pub trait Rule {
         s: CandidateSet,
         limit: u64,
     ) -> Option<u64>
-        ensures { let m = S.Sheet.meaning sheet.now in result ≡ over limit (value self.now m (inside_of m (members c)) (inside_of m (members s))) }
+        ensures { result ≡ over limit (number_inside (value self.now) (S.Sheet.meaning sheet.now) (members c) (members s)) }
     {
         let number = self.number(sheet, c, s);
-        if number <= limit { None } else { Some(number) }
+        (number > limit).then_some(number)
     }
 }
 

@@ -3,7 +3,7 @@ use Rattle.std.proofs.lemmas.Bool.Decides.{nat_tests}
 use Rattle.candidates.specs.Members.{has, members}
 use Rattle.candidates.specs.Sets.{is_in}
 use Rattle.candidates.proofs.Marks.{members-below, members_kept}
-use Rattle.rules.specs.Arrays.{at}
+use Rattle.rules.specs.Noted.{at}
 use Rattle.rules.specs.Colour.{joinable, class_of}
 use Rattle.rules.proofs.Colouring.{least_of-in, joinable-less, class_of-more}
 use Rattle.rules.proofs.colour.class_of.Given as given

@@ -1,7 +1,7 @@
 use Rattle.std.proofs.Common.{◌≡◌, ℕ, ◌||◌, length}
 use Rattle.candidates.specs.Members.{has, members}
 use Rattle.candidates.specs.Sets.{is_in}
-use Rattle.rules.specs.Arrays.{at}
+use Rattle.rules.specs.Noted.{at}
 use Rattle.rules.specs.Colour.{class_of}
 use Rattle.rules.proofs.colour.class_of.Given as goal
 

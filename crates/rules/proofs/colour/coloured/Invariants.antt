@@ -1,6 +1,6 @@
-use Rattle.std.proofs.Common.{◌≡◌, ℕ, ◌+◌, ◌*◌, ◌≤◌, length}
+use Rattle.std.proofs.Common.{◌≡◌, ◌+◌, ◌-◌, ◌*◌, length}
 use Rattle.candidates.specs.Members.{members}
-use Rattle.rules.specs.Arrays.{at}
+use Rattle.rules.specs.Noted.{AtMost, at}
 use Rattle.rules.specs.Colour.{coloured, sum_of_highest}
 use Rattle.rules.proofs.colour.coloured.Given as goal
 
@@ -10,8 +10,7 @@ invariant-loop-sigma g l =
     let m = g.S.Sheet.meaning l.sheet in
     let S = members l.left in
     let whole = members l.initial.left in
-    (length l.sigma ≡ 256)
-    × ((k : ℕ) → at l.sigma k + 65534 * length S ≤ 33553408)
+    AtMost (33553408 - 65534 * length S) (at l.sigma)
     × (l.sum + sum_of_highest (coloured m (length S) (at l.sigma) S) ≡ sum_of_highest (coloured m (length whole) (at l.initial.sigma) whole))
 
 abbrev pub decreases-loop-sigma : goal.decreases-loop-sigma

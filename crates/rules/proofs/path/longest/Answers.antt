@@ -1,14 +1,14 @@
-use Rattle.std.proofs.Common.{◌≡◌, ◌<◌, max, ltb, [], ◌∷◌, ◌++◌, length, sym, refl, ap, ◌∙◌, subst, arith}
-use Rattle.std.proofs.lemmas.List.{append_assoc, length-set}
+use Rattle.std.proofs.Common.{◌≡◌, max, ltb, [], ◌∷◌, ◌++◌, sym, ap, ◌∙◌, subst, arith}
+use Rattle.std.proofs.lemmas.List.{append_assoc}
 use Rattle.std.proofs.lemmas.Bool.{cond-true, lt-ltb}
 use Rattle.candidates.specs.Members.{members}
 use Rattle.candidates.specs.Sets.{Ascending, inserted}
 use Rattle.candidates.specs.Walk.{remaining}
 use Rattle.candidates.proofs.Marks.{members-from}
-use Rattle.rules.specs.Arrays.{at}
-use Rattle.rules.specs.Path.{longest}
-use Rattle.rules.proofs.Lengths.{inserted-next, noted-at, longest-none, longest-more}
 use Rattle.candidates.proofs.Walk.{next-below}
+use Rattle.rules.specs.Noted.{at}
+use Rattle.rules.specs.Path.{longest}
+use Rattle.rules.proofs.Lengths.{inserted-next, longest-more}
 use Rattle.rules.proofs.path.longest.Given as given
 use Rattle.rules.proofs.path.longest.Goals as goal
 use Rattle.rules.proofs.path.longest.Goals.{After-max-most}
@@ -18,20 +18,17 @@ loop-v-init g c =
     let m = g.S.Sheet.meaning c.args.sheet.now in
     let C = members c.args.c in
     let S = remaining c.into_iter-v-iterator.result in
-    (refl, ap (λ l. l ++ S) c.empty-lower.ensures.list, longest-none m C S (members c.empty-lower.result) 256 c.empty-lower.ensures.list)
+    (ap (λ l. l ++ S) c.empty-lower.ensures.list, (λ i. max 0 (longest m C (c.empty-lower.ensures.list i) (c.zeros-lengths.ensures i) S)) ∙ omega arith)
 
-pub offset_bounds-lengths-v : goal.offset_bounds-lengths-v
-offset_bounds-lengths-v g c = omega (arith, next-below _ _ _ c.in-Some.ensures.steps)
-
-pub bounds-lengths-v : goal.bounds-lengths-v
-bounds-lengths-v g c = next-below _ _ _ c.in-Some.ensures.steps
+pub note-requires : goal.note-requires
+note-requires g c = next-below _ _ _ c.in-Some.ensures.steps
 
 -- v and what is left then
 left : (g : given.Over) (c : After-max-most g) → remaining c.loop-v.v-iterator ≡ c.in-Some.v ∷ remaining c.next.new.self
 left g c = c.in-Some.ensures.steps
 
 split : (g : given.Over) (c : After-max-most g) → members c.loop-v.lower ++ c.in-Some.v ∷ remaining c.next.new.self ≡ remaining c.into_iter-v-iterator.result
-split g c = ap (λ l. members c.loop-v.lower ++ l) (sym (left g c)) ∙ c.loop-v.invariant.1
+split g c = ap (λ l. members c.loop-v.lower ++ l) (sym (left g c)) ∙ c.loop-v.invariant.0
 
 -- v stands behind the lower ones
 pushed : (g : given.Over) (c : After-max-most g) → members c.with-lower.result ≡ members c.loop-v.lower ++ c.in-Some.v ∷ []
@@ -51,15 +48,12 @@ loop-v-preserved g c =
     let v = c.in-Some.v in
     let x = c.length_of-length.result in
     let lower = members c.loop-v.lower in
-    let lengths = c.loop-v.lengths in
+    let ℓ = at c.loop-v.lengths in
     let higher = remaining c.next.new.self in
-    let whole = c.loop-v.invariant.0 in
-    let below : v < length lengths = omega (arith, next-below _ _ _ (left g c)) in
     let more : c.max-most.result ≡ max c.loop-v.most x = omega arith in (
-      length-set lengths v x ∙ whole,
       ap (λ l. l ++ higher) (pushed g c) ∙ append_assoc lower (v ∷ []) higher ∙ split g c,
-      (λ i. max (more i) (longest m C (pushed g c i) (sym (noted-at lengths v x below) i) higher))
-          ∙ longest-more m C lower (at lengths) v higher c.loop-v.most x c.length_of-length.ensures
-          ∙ ap (λ l. max c.loop-v.most (longest m C lower (at lengths) l)) (sym (left g c))
-          ∙ c.loop-v.invariant.2,
+      (λ i. max (more i) (longest m C (pushed g c i) (c.note.ensures i) higher))
+          ∙ longest-more m C lower ℓ v higher c.loop-v.most x c.length_of-length.ensures
+          ∙ ap (λ l. max c.loop-v.most (longest m C lower ℓ l)) (sym (left g c))
+          ∙ c.loop-v.invariant.1,
     )

@@ -1,5 +1,4 @@
 use Rattle.std.proofs.Common.{length, ap, ◌∙◌, arith}
-use mathlib.Core.Path.{fun_ext}
 use Rattle.candidates.specs.Members.{members}
 use Rattle.rules.specs.Bounds.{inside}
 use Rattle.rules.specs.Colour.{coloured, sum_of_highest, colour}
@@ -8,7 +7,7 @@ use Rattle.rules.specs.ColourBounds.{started-le}
 use Rattle.rules.proofs.colour.Colour.sum_of_highest.Goals as goal
 
 pub coloured-requires : goal.coloured-requires
-coloured-requires g c = λ k. omega (arith, c.started.ensures k, started-le (g.S.Sheet.meaning c.args.sheet.now) (g.S.Sheet.lawful c.args.sheet.now) (members c.inside-c.result) (members c.inside-s.result) c.inside-c.ensures.candidates k)
+coloured-requires g c = λ k. omega (arith, ap (λ σ. σ k) c.started.ensures, started-le (g.S.Sheet.meaning c.args.sheet.now) (g.S.Sheet.lawful c.args.sheet.now) (members c.inside-c.result) (members c.inside-s.result) c.inside-c.ensures.candidates k)
 
 pub returns : goal.returns
 returns g c =
@@ -17,7 +16,7 @@ returns g c =
     record {
       value =
           c.coloured.ensures
-          ∙ ap (λ σ. sum_of_highest (coloured m (length S) σ S)) (fun_ext c.started.ensures)
+          ∙ ap (λ σ. sum_of_highest (coloured m (length S) σ S)) c.started.ensures
           ∙ (λ i. colour m (c.inside-c.ensures.list i) (c.inside-s.ensures.list i));
       classes = classes-partition m (g.S.Sheet.lawful c.args.sheet.now) (inside m (members c.args.c)) (inside m (members c.args.s));
     }
