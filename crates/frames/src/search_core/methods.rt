@@ -9,7 +9,8 @@ use crate::frame::Frame;
 use crate::search_core::Core;
 use crate::stack::Stack;
 use candidates::set::CandidateSet;
-use sheets::sheet::{Points, Sheet};
+use sheets::pairing::Pairing;
+use sheets::sheet::Sheet;
 use sheets::sums::weight;
 
 impl Core {
@@ -40,10 +41,10 @@ impl Core {
         ensures after { view self.new ≡ state (offered (S.Sheet.meaning sheet.now) (view self.old).held (members set)) (view self.old).stack }
     {
         let weight = weight(sheet, set);
-        if let Some(held) = self.held {
-            if weight <= held {
-                return false;
-            }
+        if let Some(held) = self.held
+            && weight <= held
+        {
+            return false;
         }
         self.held = Some(weight);
         self.marks = set;
@@ -51,10 +52,11 @@ impl Core {
     }
 
     // The held set and its weight.
-    pub fn held(&self) -> Option<(CandidateSet, Points)>
+    pub fn held(&self) -> Option<Pairing>
         ensures { held_of result ≡ (view self.now).held }
     {
-        Some((self.marks, self.held?))
+        let set = self.marks;
+        self.held.map(|points| Pairing { set, points })
     }
 
     // The greatest of the held weight, 0, and the marks on the stack.
