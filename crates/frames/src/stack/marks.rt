@@ -11,13 +11,12 @@ impl Stack<Frame> {
     pub(crate) fn highest(&self) -> u64
         ensures { result ≡ highest_of (frames_of self.now) }
     {
-        if self.count == 0 {
+        let Some(top) = self.peek() else {
             return 0;
-        }
-        let mut most: u64 = self.head.mark;
-        for i in 0..self.count - 1 {
-            most = most.max(self.below[i].mark);
-        }
-        most
+        };
+        let below = &self.below[..self.count - 1];
+        below
+            .iter()
+            .fold(top.mark, |most, frame| most.max(frame.mark))
     }
 }
