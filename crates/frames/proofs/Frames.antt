@@ -1,5 +1,6 @@
 -- How far a stack of frames can still grow, and what a node makes of it when v branches off the top.
 use Rattle.std.proofs.Common.{◌≡◌, ℕ, ◌<◌, ◌≤◌, min, Bool, true, false, cond, ltb, List, ◌∷◌, map, length, drop, is_some, Some, None, filter, Option, sym, refl, ap, ◌∙◌, subst, arith}
+use Rattle.frames.specs.Stacks.{top_of}
 use Rattle.std.proofs.lemmas.Bool.{cond-true, cond-false, lt-ltb, false≢true}
 use Rattle.candidates.specs.declared.set.CandidateSet.{CandidateSet}
 use Rattle.candidates.specs.Members.{has, members}
@@ -9,7 +10,6 @@ use Rattle.candidates.proofs.Sets.{cons-from-removed, in-first, length-sub, sub-
 use Rattle.frames.specs.declared.frame.Frame.{Frame}
 use Rattle.frames.specs.Branches.{child, lowered, branched}
 use Rattle.frames.specs.Shown.{shown, frames_of, reach}
-use Rattle.frames.specs.Stacks.{top_of}
 use Rattle.frames.proofs.Items.{cons-from-top}
 use Rattle.rules.specs.Bounds.{Number}
 use Rattle.runs.specs.State as runs

@@ -11,12 +11,7 @@ impl Stack<Frame> {
     pub(crate) fn highest(&self) -> u64
         ensures { result ≡ highest_of (frames_of self.now) }
     {
-        let Some(top) = self.peek() else {
-            return 0;
-        };
-        let below = &self.below[..self.count - 1];
-        below
-            .iter()
-            .fold(top.mark, |most, frame| most.max(frame.mark))
+        let frames = &self.items[..self.count];
+        frames.iter().map(|frame| frame.mark).max().unwrap_or(0)
     }
 }

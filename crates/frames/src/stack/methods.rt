@@ -13,8 +13,7 @@ impl<F: Copy> Stack<F> {
         ensures { result ≡ f ∷ [] }
     {
         Stack {
-            head: f,
-            below: [f; 256],
+            items: [f; 257],
             count: 1,
         }
     }
@@ -23,7 +22,7 @@ impl<F: Copy> Stack<F> {
     pub(crate) fn peek(&self) -> Option<F>
         ensures { result ≡ top_of self.now }
     {
-        (self.count > 0).then_some(self.head)
+        self.items[..self.count].last().copied()
     }
 
     // The top, lent to be changed; an empty stack has none.
@@ -34,7 +33,7 @@ impl<F: Copy> Stack<F> {
         if self.count == 0 {
             None
         } else {
-            Some(&mut self.head)
+            Some(&mut self.items[self.count - 1])
         }
     }
 
@@ -42,13 +41,7 @@ impl<F: Copy> Stack<F> {
         requires { length self.old < 257 }
         ensures { self.new ≡ f ∷ self.old }
     {
-        if self.count == 0 {
-            self.head = f;
-            self.count = 1;
-            return;
-        }
-        self.below[self.count - 1] = self.head;
-        self.head = f;
+        self.items[self.count] = f;
         self.count += 1;
     }
 
@@ -56,11 +49,6 @@ impl<F: Copy> Stack<F> {
     pub(crate) fn pop(&mut self)
         ensures { self.new ≡ drop 1 self.old }
     {
-        if self.count <= 1 {
-            self.count = 0;
-            return;
-        }
-        self.head = self.below[self.count - 2];
-        self.count -= 1;
+        self.count = self.count.saturating_sub(1);
     }
 }

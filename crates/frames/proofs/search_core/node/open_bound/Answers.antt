@@ -1,4 +1,4 @@
-use Rattle.std.proofs.Common.{◌≡◌, ℕ, ◌≤◌, Bool, true, false, cond, leb, is_some, Some, None, sym, ap, ◌∙◌, arith}
+use Rattle.std.proofs.Common.{◌≡◌, ℕ, ◌≤◌, Bool, true, false, cond, leb, is_some, Some, None, sym, ap, arith}
 use Rattle.std.proofs.lemmas.Bool.{false≢true}
 use Rattle.candidates.specs.declared.set.CandidateSet.{CandidateSet}
 use Rattle.candidates.specs.Members.{members}
@@ -24,11 +24,9 @@ pub overflow_add-result : goal.overflow_add-result
 overflow_add-result g c =
     let m = g.S.Sheet.meaning c.args.sheet.now in
     let number = g.R.Rule.value c.args.rule.now in
-    let C = inside m (members c.args.top.clique) in
-    let S = inside m (members c.args.top.rest) in
     let limit = number-limit m (g.S.Sheet.lawful c.args.sheet.now) number (g.R.Rule.bounds c.args.rule.now) c.args.top.clique c.args.top.rest in
-    let is : c.match-core.number ≡ number m C S = elim c.match-core.branch [
-      | in-Some+in_ok-number-in-Some w ↦ w.number-is ∙ over-same _ _ _ w.in_ok-number-in-Some.ensures
-      | in_default w ↦ w.number-is ∙ w.number-number.ensures
-    ] in
-    omega (arith, c.weight-weight.ensures.bound, limit)
+    let weight = c.weight-weight.ensures.bound in
+    elim c.match-core.branch [
+      | in-Some+in_ok-number-in-Some w ↦ let is = over-same _ _ _ w.in_ok-number-in-Some.ensures in omega (arith, weight, limit)
+      | in_default w ↦ omega (arith, weight, limit)
+    ]

@@ -1,10 +1,12 @@
-use Rattle.std.proofs.Common.{rules, ◌≡◌, ℕ, zero, suc, ◌-◌, max, List, [], ◌∷◌, ◌++◌, map, reverse, take, is_some, Some, sym, ap, ◌∙◌, arith}
+use Rattle.std.proofs.Common.{rules, tests, ◌≡◌, ℕ, max, List, [], ◌∷◌, ◌++◌, map, reverse, take, ap, arith}
 use Rattle.std.specs.List.{fold}
+use Rattle.std.specs.Option.{unwrap_or}
+use Rattle.std.proofs.lemmas.Iterator.{YieldsList-from_slice, YieldsList-from_map}
+use Rattle.std.proofs.lemmas.Iterator.Consumers.{reduce_from_yields_List}
 use Rattle.std.proofs.lemmas.List.{reverse-append}
-use Rattle.std.proofs.lemmas.Bool.{false≢true}
+use Rattle.std.proofs.lemmas.List.Folds.{max_of_map}
 use Rattle.frames.specs.declared.frame.Frame.{Frame}
 use Rattle.frames.specs.Shown.{shown}
-use Rattle.frames.specs.Stacks.{items_at, top_of}
 use Rattle.frames.proofs.stack.marks.Stack+Frame.highest.Goals as goal
 use Rattle.runs.specs.State.{highest}
 
@@ -17,16 +19,8 @@ fold-marks : (most : ℕ) (fs : List Frame) → fold (λ m f. max m f.mark) most
 fold-marks most [] = omega arith
 fold-marks most (f ∷ fs) = omega (arith, fold-marks (max most f.mark) fs, ap (λ xs. highest (map shown xs)) (reverse-append (f ∷ []) fs), highest-last (reverse fs) f)
 
-fold-items : (head : Frame) (below : List Frame) (n : ℕ) (top : Frame) → Some top ≡ top_of (items_at head below n) → fold (λ m f. max m f.mark) top.mark (take (n - 1) below) ≡ highest (map shown (items_at head below n))
-fold-items head below zero top e = absurd (false≢true (ap is_some (sym e)))
-fold-items head below (suc n) top e =
-    let same : top ≡ head = cc in
-    let less : suc n - 1 ≡ n = omega arith in
-    fold-marks top.mark (take (suc n - 1) below) ∙ (λ i. max (same i).mark (highest (map shown (reverse (take (less i) below)))))
-
 pub returns : goal.returns
 returns c =
-    let inside = c.self.inside in
-    let whole : c.fold.result ≡ fold (λ m f. max m f.mark) c.in-Some.top.mark (take (inside.count - 1) inside.below) = search rules in
-    let first : Some c.in-Some.top ≡ top_of (items_at inside.head inside.below inside.count) = c.in-Some.ensures ∙ ap top_of (sym c.self.view_is) in
-    whole ∙ fold-items inside.head inside.below inside.count c.in-Some.top first ∙ ap (λ fs. highest (map shown fs)) c.self.view_is
+    let frames = take c.self.inside.count c.self.inside.items in
+    let whole = reduce_from_yields_List _ c.map.result c.max.result c.max.ensures.ran (YieldsList-from_map _ (λ f. f.mark) (YieldsList-from_slice frames cc) c.map.ensures.closure (λ x r q k. search (rules, tests))) in
+    omega (arith, c.unwrap_or.ensures, ap (λ r. unwrap_or r 0) whole, max_of_map (λ f. f.mark) frames, fold-marks 0 frames, ap (λ fs. highest (map shown fs)) c.self.view_is)
