@@ -52,15 +52,16 @@ module _ (before after : List Frame) (top : Frame) (v b : ℕ) (fitting : Candid
   reach-after room =
       omega (arith, ap reach frames-after, ap reach topped, ap length rested, length-sub (sub-kept-by (λ k. is_in k (members fitting)) (removed v (members top.rest))))
 
-  pub node-after : (m : Meaning) (number : Number) (held : Option Held) → ((k : ℕ) → has fitting k ≡ m.fit v k)
-      → Some b ≡ cond (reaches held (bound m number (members top.clique) (members top.rest))) None (Some (bound m number (members top.clique) (members top.rest)))
-      → state held (frames_of after) ≡ node m number (state held (frames_of before))
-  node-after m number held fits above =
+  pub node-after : (m : Meaning) (number : Number) (held : Option Held) (s : State) → state held (frames_of before) ≡ s → ((k : ℕ) → has fitting k ≡ m.fit v k)
+      → Some b ≡ cond (reaches s.held (bound m number (members top.clique) (members top.rest))) None (Some (bound m number (members top.clique) (members top.rest)))
+      → state held (frames_of after) ≡ node m number s
+  node-after m number held s view fits above =
       let C = members top.clique in
       let S = removed v (members top.rest) in
       let small = members-below top.rest v (ap (is_in v) rested ∙ in-first v S) in
-      let open' = subst (λ T. Some b ≡ cond (reaches held (bound m number C T)) None (Some (bound m number C T))) rested above in
+      let open' = subst (λ T. Some b ≡ cond (reaches held (bound m number C T)) None (Some (bound m number C T))) rested (subst (λ t. Some b ≡ cond (reaches t.held (bound m number C (members top.rest))) None (Some (bound m number C (members top.rest)))) (sym view) above) in
       ap (state held) frames-after
       ∙ node-branched m number held C S v top.mark b under (members fitting) small (common-fitting m v fitting S fits) open'
       ∙ ap (λ T. node_at m number held C T top.mark under) (sym rested)
       ∙ ap (node-on m number held) (sym topped)
+      ∙ ap (node m number) view

@@ -3,7 +3,6 @@ ghost use Rattle.std.specs.Prelude.{◌≡◌, ◌<◌, length, if◌then◌else
 ghost use Rattle.candidates.specs.Members.{members};
 ghost use Rattle.frames.specs.Branches.{branched};
 ghost use Rattle.frames.specs.Shown.{frames_of};
-ghost use Rattle.frames.specs.View.{view};
 ghost use Rattle.runs.specs.State.{bound as bound_of, node as node_of, reaches};
 
 use crate::frame::Frame;
@@ -16,7 +15,7 @@ use sheets::sums::weight;
 
 // W(C) plus the rule's number, unless the held weight reaches it.
 fn open_bound<S: Sheet, R: Rule>(sheet: &S, rule: &R, core: &Core, top: Frame) -> Option<u64>
-    ensures { let b = bound_of (S.Sheet.meaning sheet.now) (R.Rule.value rule.now) (members top.clique) (members top.rest) in result ≡ (if reaches (view core.now).held b then None else Some b) }
+    ensures { let b = bound_of (S.Sheet.meaning sheet.now) (R.Rule.value rule.now) (members top.clique) (members top.rest) in result ≡ (if reaches core.now.held b then None else Some b) }
 {
     let weight = weight(sheet, top.clique);
     let number = match core.held {
@@ -39,7 +38,7 @@ fn branch_top(stack: &mut Stack<Frame>, v: usize, fitting: CandidateSet, bound: 
 
 // One node: the top frame is examined. A finished search stays as it is.
 pub fn node<S: Sheet, R: Rule>(sheet: &S, rule: &R, core: &mut Core)
-    ensures { view core.new ≡ node_of (S.Sheet.meaning sheet.now) (R.Rule.value rule.now) (view core.old) }
+    ensures { core.new ≡ node_of (S.Sheet.meaning sheet.now) (R.Rule.value rule.now) core.old }
 {
     let Some(top) = core.stack.peek() else {
         return;
