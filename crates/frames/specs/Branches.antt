@@ -11,7 +11,7 @@ lowered v bound f = frame f.clique (removed v f.rest) (min f.mark bound)
 abbrev pub child : ℕ → List ℕ → ℕ → Frame → Frame
 child v fitting bound f = frame (cond (nat_lt v 256) (inserted v f.clique) f.clique) (common (removed v f.rest) fitting) (min f.mark bound)
 
--- the top changes
-abbrev pub on_top : (Frame → Frame) → List Frame → List Frame
-on_top change [] = []
-on_top change (f ∷ below) = change f ∷ below
+-- v branches off the top
+abbrev pub branched : ℕ → List ℕ → ℕ → List Frame → List Frame
+branched v fitting bound [] = []
+branched v fitting bound (f ∷ below) = child v fitting bound f ∷ lowered v bound f ∷ below

@@ -2,16 +2,14 @@
 use Rattle.std.specs.Prelude.{ℕ, ◌+◌, max, List, [], ◌∷◌, map, length}
 use Rattle.candidates.specs.Members.{members}
 use Rattle.frames.specs.declared.frame.Frame.{Frame}
-use Rattle.frames.specs.declared.stack.Stack.{Stack}
-use Rattle.frames.specs.Stacks.{items}
 use Rattle.runs.specs.State as runs
 
 abbrev pub shown : Frame → runs.Frame
 shown f = runs.frame (members f.clique) (members f.rest) f.mark
 
 -- the top first
-abbrev pub frames_of : Stack Frame → List runs.Frame
-frames_of s = map shown (items s)
+abbrev pub frames_of : List Frame → List runs.Frame
+frames_of s = map shown s
 
 -- The greatest height that a stack can come to: each in the rest of a frame may add one to the height of that frame, which is counted from 1.
 abbrev pub reach : List runs.Frame → ℕ

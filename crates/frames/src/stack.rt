@@ -1,15 +1,23 @@
 // A stack with room for 257.
-ghost use Rattle.std.specs.Prelude.{◌≤◌, length};
+use std::marker::Model;
 
 pub(crate) mod marks;
 pub(crate) mod methods;
 
-// The top stands in a field of its own, so that it can be lent; the others lie below it, the lowest first.
+// The lowest item first. The room is fixed: a list that grows would let a search run out of memory.
 #[derive(Drop)]
 pub struct Stack<F> {
-    head: F,
-    below: [F; 256],
+    items: [F; 257],
     count: usize,
-    ghost whole: { 256 ≤ length below },
-    ghost room: { count ≤ 257 },
+}
+
+// A stack is the list of its items, the top first.
+impl<F> Model for Stack<F> {
+    ghost use Rattle.std.specs.Prelude.{List, ◌≡◌, ◌≤◌, length, reverse, take};
+
+    ghost Value = { List F };
+
+    ghost view = { λ s. reverse (take s.count s.items) };
+
+    ghost invariant = { λ s. (s.count ≤ 257) × (length s.items ≡ 257) };
 }

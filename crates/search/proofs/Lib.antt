@@ -1,4 +1,3 @@
 pub mod Advance
-pub mod Written
 pub mod Offers
 pub mod Answered

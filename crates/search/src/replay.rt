@@ -5,7 +5,7 @@ ghost use Rattle.runs.specs.Promise.{Promise};
 ghost use Rattle.runs.specs.Worked.{WorkedCases};
 ghost use Rattle.search.specs.Replay.{answer_of, call_of};
 ghost use Rattle.search.specs.Replies.{replied};
-ghost use Rattle.search.specs.Searching.{state_of};
+ghost use Rattle.search.specs.Searching.{Kept, state_of};
 
 use crate::calls::{Answer, Call};
 use crate::search::Search;
@@ -28,7 +28,7 @@ fn held_in<S: Sheet, R: Rule>(
 // One call.
 fn answer<S: Sheet, R: Rule>(search: &mut Search<S, R>, call: &Call) -> Result<Answer, AllocError>
     ensures value { IfOk result (λ a. replied (answer_of a) (state_of search.new) ≡ reply (S.Sheet.meaning search.old.sheet) (R.Rule.value search.old.rule) (state_of search.old) (call_of call.now)) }
-    ensures same { (search.new.sheet ≡ search.old.sheet) × (search.new.rule ≡ search.old.rule) }
+    ensures same { Kept search.old search.new }
 {
     match call {
         Call::Grant(k) => Ok(Answer::Grant(search.grant(*k))),

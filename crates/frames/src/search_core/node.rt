@@ -1,9 +1,8 @@
 // One node of a search.
-ghost use Rattle.std.specs.Prelude.{◌≡◌, if◌then◌else◌, Some, None};
+ghost use Rattle.std.specs.Prelude.{◌≡◌, ◌<◌, length, if◌then◌else◌, Some, None};
 ghost use Rattle.candidates.specs.Members.{members};
-ghost use Rattle.frames.specs.Branches.{child, lowered, on_top};
-ghost use Rattle.frames.specs.Shown.{frames_of, shown};
-ghost use Rattle.frames.specs.View.{view};
+ghost use Rattle.frames.specs.Branches.{branched};
+ghost use Rattle.frames.specs.Shown.{frames_of};
 ghost use Rattle.runs.specs.State.{bound as bound_of, node as node_of, reaches};
 
 use crate::frame::Frame;
@@ -16,29 +15,30 @@ use sheets::sums::weight;
 
 // W(C) plus the rule's number, unless the held weight reaches it.
 fn open_bound<S: Sheet, R: Rule>(sheet: &S, rule: &R, core: &Core, top: Frame) -> Option<u64>
-    ensures { let b = bound_of (S.Sheet.meaning sheet.now) (R.Rule.value rule.now) (members top.clique) (members top.rest) in result ≡ (if reaches (view core.now).held b then None else Some b) }
+    ensures { let b = bound_of (S.Sheet.meaning sheet.now) (R.Rule.value rule.now) (members top.clique) (members top.rest) in result ≡ (if reaches core.now.held b then None else Some b) }
 {
     let weight = weight(sheet, top.clique);
-    if let Some(held) = core.held {
-        if weight <= held {
-            let number = rule.above(sheet, top.clique, top.rest, held - weight)?;
-            return Some(weight + number);
-        }
-    }
-    Some(weight + rule.number(sheet, top.clique, top.rest))
+    let number = match core.held {
+        Some(held) if weight <= held => rule.above(sheet, top.clique, top.rest, held - weight)?,
+        _ => rule.number(sheet, top.clique, top.rest),
+    };
+    Some(weight + number)
 }
 
 // v branches off the top frame.
-fn branch_top(stack: &mut Stack<Frame>, v: usize, fitting: CandidateSet, bound: u64) -> Frame
-    ensures left { frames_of stack.new ≡ on_top (lowered v bound) (frames_of stack.old) }
-    ensures above { shown result ≡ child v (members fitting) bound (shown stack.old.head) }
+fn branch_top(stack: &mut Stack<Frame>, v: usize, fitting: CandidateSet, bound: u64)
+    requires { length stack.old < 257 }
+    ensures { frames_of stack.new ≡ branched v (members fitting) bound (frames_of stack.old) }
 {
-    stack.top().branch(v, fitting, bound)
+    if let Some(top) = stack.top() {
+        let above = top.branch(v, fitting, bound);
+        stack.push(above);
+    }
 }
 
 // One node: the top frame is examined. A finished search stays as it is.
 pub fn node<S: Sheet, R: Rule>(sheet: &S, rule: &R, core: &mut Core)
-    ensures { view core.new ≡ node_of (S.Sheet.meaning sheet.now) (R.Rule.value rule.now) (view core.old) }
+    ensures { core.new ≡ node_of (S.Sheet.meaning sheet.now) (R.Rule.value rule.now) core.old }
 {
     let Some(top) = core.stack.peek() else {
         return;
@@ -52,6 +52,5 @@ pub fn node<S: Sheet, R: Rule>(sheet: &S, rule: &R, core: &mut Core)
         core.stack.pop();
         return;
     };
-    let above = branch_top(&mut core.stack, v, sheet.fitting(v), bound);
-    core.stack.push(above);
+    branch_top(&mut core.stack, v, sheet.fitting(v), bound);
 }

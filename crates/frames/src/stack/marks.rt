@@ -11,13 +11,7 @@ impl Stack<Frame> {
     pub(crate) fn highest(&self) -> u64
         ensures { result ≡ highest_of (frames_of self.now) }
     {
-        if self.count == 0 {
-            return 0;
-        }
-        let mut most: u64 = self.head.mark;
-        for i in 0..self.count - 1 {
-            most = most.max(self.below[i].mark);
-        }
-        most
+        let frames = &self.items[..self.count];
+        frames.iter().map(|frame| frame.mark).max().unwrap_or(0)
     }
 }

@@ -2,7 +2,7 @@
 ghost use Rattle.std.specs.Prelude.{◌≡◌};
 ghost use Rattle.runs.specs.Calls.{grant as grant_of, progress};
 ghost use Rattle.search.specs.Replies.{grant_answer, replied};
-ghost use Rattle.search.specs.Searching.{state_of};
+ghost use Rattle.search.specs.Searching.{Kept, state_of};
 
 use crate::refusals::GrantRefusal;
 use crate::search::Search;
@@ -15,7 +15,7 @@ impl<S: Sheet, R: Rule> Search<S, R> {
     fn advance(&mut self, k: u64) -> u64
         ensures nodes { result ≡ (progress (S.Sheet.meaning self.old.sheet) (R.Rule.value self.old.rule) k (state_of self.old)).nodes }
         ensures after { state_of self.new ≡ (progress (S.Sheet.meaning self.old.sheet) (R.Rule.value self.old.rule) k (state_of self.old)).reached }
-        ensures same { (self.new.sheet ≡ self.old.sheet) × (self.new.rule ≡ self.old.rule) }
+        ensures same { Kept self.old self.new }
     {
         for done in 0..k {
             if self.core.is_finished() {
@@ -29,9 +29,9 @@ impl<S: Sheet, R: Rule> Search<S, R> {
     // At most k nodes, from 1 to 1,000,000: how many were done, and whether the search is finished.
     pub fn grant(&mut self, k: u64) -> Result<(u64, bool), GrantRefusal>
         ensures value { replied (grant_answer result) (state_of self.new) ≡ grant_of (S.Sheet.meaning self.old.sheet) (R.Rule.value self.old.rule) (state_of self.old) k }
-        ensures same { (self.new.sheet ≡ self.old.sheet) × (self.new.rule ≡ self.old.rule) }
+        ensures same { Kept self.old self.new }
     {
-        if k < 1 || k > 1_000_000 {
+        if !(1..=1_000_000).contains(&k) {
             return Err(GrantRefusal::OutOfRange);
         }
         let nodes = self.advance(k);

@@ -5,7 +5,7 @@ ghost use Rattle.runs.specs.Calls.{first_no, offer as offer_of, offer_questions}
 ghost use Rattle.search.specs.Offers.{first_unfit};
 ghost use Rattle.search.specs.Refusals.{offer_refused};
 ghost use Rattle.search.specs.Replies.{offer_answer, replied};
-ghost use Rattle.search.specs.Searching.{state_of};
+ghost use Rattle.search.specs.Searching.{Kept, state_of};
 
 use crate::refusals::OfferRefusal;
 use crate::search::Search;
@@ -17,12 +17,7 @@ use sheets::sheet::Sheet;
 fn first_unfit<S: Sheet>(sheet: &S, v: usize, before: &[usize]) -> Option<usize>
     ensures { result ≡ first_unfit (S.Sheet.meaning sheet.now) v before.now }
 {
-    for (place, u) in before.iter().enumerate() {
-        if !sheet.fits(v, *u) {
-            return Some(place);
-        }
-    }
-    None
+    before.iter().position(|u| !sheet.fits(v, *u))
 }
 
 // The set of a list that is a clique written upwards; otherwise the first entry that is not as it should be.
@@ -52,7 +47,7 @@ impl<S: Sheet, R: Rule> Search<S, R> {
     // taken.
     pub fn offer(&mut self, list: &[usize]) -> Result<bool, OfferRefusal>
         ensures value { replied (offer_answer result) (state_of self.new) ≡ offer_of (S.Sheet.meaning self.old.sheet) (state_of self.old) list.now }
-        ensures same { (self.new.sheet ≡ self.old.sheet) × (self.new.rule ≡ self.old.rule) }
+        ensures same { Kept self.old self.new }
     {
         let set = accepted(&self.sheet, list)?;
         Ok(self.core.offer(&self.sheet, set))

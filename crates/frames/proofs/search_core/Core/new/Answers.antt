@@ -25,7 +25,7 @@ frames-start g c =
 pub invariant_of-result : goal.invariant_of-result
 invariant_of-result g c =
     let m = g.S.Sheet.meaning c.args.sheet.now in
-    record { room = omega (arith, ap reach (frames-start g (goal.at.invariant_of-result g c).After-of), length-counting 0 m.size, (g.S.Sheet.lawful c.args.sheet.now).most) }
+    omega (arith, ap reach (frames-start g (goal.at.invariant_of-result g c).After-of), length-counting 0 m.size, (g.S.Sheet.lawful c.args.sheet.now).most)
 
 pub returns : goal.returns
 returns g c = ap (state _) (frames-start g (goal.at.returns g c).After-of)

@@ -1,9 +1,10 @@
-use Rattle.std.proofs.Common.{◌≡◌, ℕ, ◌-◌, ◌≤◌, Bool, true, false, cond, leb, is_some, Some, None, sym, ap, arith}
+use Rattle.std.proofs.Common.{◌≡◌, ℕ, ◌≤◌, Bool, true, false, cond, leb, is_some, Some, None, sym, ap, arith}
 use Rattle.std.proofs.lemmas.Bool.{false≢true}
 use Rattle.candidates.specs.declared.set.CandidateSet.{CandidateSet}
 use Rattle.candidates.specs.Members.{members}
 use Rattle.candidates.proofs.Marks.{members-from}
 use Rattle.frames.proofs.search_core.node.open_bound.Goals as goal
+use Rattle.frames.proofs.search_core.node.open_bound.Goals.{in-Some+in_ok-number-in-Some, in_default}
 use Rattle.rules.specs.Bounds.{Number, Bounds, inside, over}
 use Rattle.rules.proofs.Inside.{inside-candidates}
 use Rattle.sheets.specs.Meaning.{Meaning, Lawful}
@@ -23,13 +24,9 @@ pub overflow_add-result : goal.overflow_add-result
 overflow_add-result g c =
     let m = g.S.Sheet.meaning c.args.sheet.now in
     let number = g.R.Rule.value c.args.rule.now in
-    let C = inside m (members c.args.top.clique) in
-    let S = inside m (members c.args.top.rest) in
-    let is : c.in_ok-number.number ≡ number m C S = over-same (c.in-Some.held - c.weight-weight.result) (number m C S) c.in_ok-number.number c.in_ok-number.ensures in
-    omega (arith, c.weight-weight.ensures.bound, number-limit m (g.S.Sheet.lawful c.args.sheet.now) number (g.R.Rule.bounds c.args.rule.now) c.args.top.clique c.args.top.rest)
-
-pub overflow_add-result-2 : goal.overflow_add-result-2
-overflow_add-result-2 g c =
-    let m = g.S.Sheet.meaning c.args.sheet.now in
-    let number = g.R.Rule.value c.args.rule.now in
-    omega (arith, c.number.ensures, c.weight-weight.ensures.bound, number-limit m (g.S.Sheet.lawful c.args.sheet.now) number (g.R.Rule.bounds c.args.rule.now) c.args.top.clique c.args.top.rest)
+    let limit = number-limit m (g.S.Sheet.lawful c.args.sheet.now) number (g.R.Rule.bounds c.args.rule.now) c.args.top.clique c.args.top.rest in
+    let weight = c.weight-weight.ensures.bound in
+    elim c.match-core.branch [
+      | in-Some+in_ok-number-in-Some w ↦ let is = over-same _ _ _ w.in_ok-number-in-Some.ensures in omega (arith, weight, limit)
+      | in_default w ↦ omega (arith, weight, limit)
+    ]

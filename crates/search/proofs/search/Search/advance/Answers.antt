@@ -1,5 +1,4 @@
 use Rattle.std.proofs.Common.{sym, ◌∙◌}
-use Rattle.frames.specs.View.{view}
 use Rattle.runs.specs.State.{node}
 use Rattle.search.specs.Searching.{state_of}
 use Rattle.search.proofs.Advance.{advanced-more, advanced-finished}
@@ -18,4 +17,4 @@ loop-done-preserved g c =
     let now = c.loop-done.self in
     let inv = c.loop-done.invariant in
     let next = c.node.ensures ∙ (λ i. node (g.S.Sheet.meaning (inv.1 i)) (g.R.Rule.value (inv.2 i)) (state_of now)) in
-    (advanced-more (g.S.Sheet.meaning self.sheet) (g.R.Rule.value self.rule) c.args.k (state_of self) c.loop-done.done (state_of now) (view c.node.new.core) c.loop-done-test.true (sym c.if-is_finished.ensures) next inv.0, inv.1, inv.2)
+    (advanced-more (g.S.Sheet.meaning self.sheet) (g.R.Rule.value self.rule) c.args.k (state_of self) c.loop-done.done (state_of now) c.node.new.core c.loop-done-test.true (sym c.if-is_finished.ensures) next inv.0, inv.1, inv.2)

@@ -1,37 +1,26 @@
-use Rattle.std.proofs.Common.{arith}
-use Rattle.std.specs.List.{prefix_len}
-use Rattle.std.proofs.lemmas.List.{at_drop_more, at_drop_all}
+use Rattle.std.proofs.Common.{◌≡◌, ℕ, not, ltb, List, [], ◌∷◌, length, rules, tests, arith, ◌∙◌}
+use Rattle.std.specs.List.{prefix_len, position}
+use Rattle.std.proofs.lemmas.Iterator.{YieldsList-from_slice}
+use Rattle.std.proofs.lemmas.Iterator.Search.{position_from_yields_List}
 use Rattle.std.proofs.lemmas.Bool.Decides.{nat_tests}
+use Rattle.search.specs.Offers.{first_unfit}
 use Rattle.search.proofs.search.offers.first_unfit.Goals as goal
 use Rattle.sheets.specs.Cliques.{fits_all}
+use Rattle.sheets.specs.Meaning.{Meaning}
 
-pub returns-then-not-fits : goal.returns-then-not-fits
-returns-then-not-fits g c =
-    let m = g.S.Sheet.meaning c.args.sheet.now in
-    let v = c.args.v in
-    let xs = c.args.before.now in
-    let i = c.loop-place.place in
-    let all = at_drop_more (fits_all m v) xs i 0 c.loop-place-test.true in
-    let front = at_drop_more (prefix_len (m.fit v)) xs i 0 c.loop-place-test.true in
-    let unfit = c.if-not-fits.ensures in
-    let inv = c.loop-place.invariant in
-    grind (arith, nat_tests)
+not-not : (m : Meaning) (v : ℕ) (xs : List ℕ) → prefix_len (λ u. not (not (m.fit v u))) xs ≡ prefix_len (m.fit v) xs
+not-not m v [] = grind (arith, nat_tests)
+not-not m v (u ∷ xs) = let same = not-not m v xs in grind (arith, nat_tests)
 
-pub loop-place-preserved : goal.loop-place-preserved
-loop-place-preserved g c =
-    let m = g.S.Sheet.meaning c.args.sheet.now in
-    let v = c.args.v in
-    let xs = c.args.before.now in
-    let i = c.loop-place.place in
-    let all = at_drop_more (fits_all m v) xs i 0 c.loop-place-test.true in
-    let front = at_drop_more (prefix_len (m.fit v)) xs i 0 c.loop-place-test.true in
-    let fits = c.if-not-fits.ensures in
-    let inv = c.loop-place.invariant in
-    (grind (arith, nat_tests), grind (arith, nat_tests))
+ends : (m : Meaning) (v : ℕ) (xs : List ℕ) → ltb (prefix_len (m.fit v) xs) (length xs) ≡ not (fits_all m v xs)
+ends m v [] = grind (arith, nat_tests)
+ends m v (u ∷ xs) = let same = ends m v xs in grind (arith, nat_tests)
+
+position-unfit : (m : Meaning) (v : ℕ) (xs : List ℕ) → position (λ u. not (m.fit v u)) xs ≡ first_unfit m v xs
+position-unfit m v xs = let a = not-not m v xs in let b = ends m v xs in grind (arith, nat_tests)
 
 pub returns : goal.returns
 returns g c =
     let m = g.S.Sheet.meaning c.args.sheet.now in
-    let all = at_drop_all (fits_all m c.args.v) c.args.before.now c.loop-place.place c.loop-place-test.false in
-    let inv = c.loop-place.invariant in
-    grind (arith, nat_tests)
+    position_from_yields_List (λ u. not (m.fit c.args.v u)) _ _ c.position.result c.position.ensures.ran (YieldsList-from_slice c.args.before.now cc) (λ x r q k. search (rules, tests))
+    ∙ position-unfit m c.args.v c.args.before.now
