@@ -1,13 +1,10 @@
 -- The sums and tests over the bytes of a block.
-use Rattle.std.proofs.Common.{◌≡◌, ℕ, zero, suc, ◌+◌, ◌-◌, ◌*◌, ◌<◌, ◌≤◌, true, ◌&&◌, eqb, List, [], ◌∷◌, length, get_or, take, drop, sum_by, refl, sym, ap, ◌∙◌, ⊎_elim, add-one, mul-le-mul, arith}
-use Rattle.std.specs.List.{enumerate_from, list_all}
-use Rattle.std.proofs.Math.Seq.{drop-cons}
-use Rattle.std.proofs.lemmas.Bool.{cases_lt}
-use Rattle.std.proofs.lemmas.List.{drop_all, get_or_past, take_all}
-use Rattle.std.proofs.lemmas.List.Sums.{sum_by-cons}
+use Rattle.std.proofs.Common.{◌≡◌, ℕ, zero, suc, ◌+◌, ◌-◌, ◌*◌, ◌<◌, ◌≤◌, ◌&&◌, eqb, List, [], ◌∷◌, length, get_or, drop, refl, ap, add-one, arith}
+use Rattle.std.specs.List.{list_all}
+use Rattle.std.proofs.lemmas.List.{get_or_past}
 use Rattle.candidates.specs.Sets.{counting}
 use Rattle.sheets.specs.Weights.{total}
-use Rattle.blocks.specs.Bytes.{part, all_zero}
+use Rattle.blocks.specs.Bytes.{all_zero}
 use Rattle.blocks.specs.Format.{weighed}
 
 pub counting_more : (i n : ℕ) → i < n → counting i (n - i) ≡ i ∷ counting (i + 1) (n - (i + 1))

@@ -23,6 +23,7 @@ pub fn check_of(block: &[u8]) -> usize
 pub fn check_seal(block: &[u8], place: usize) -> Result<(), BlockFault>
     ensures { result ≡ first_no (seal_questions place block.now) }
 {
+    // `as`, since `usize` has no `From<u32>`.
     if u32_at(block, 508) as usize != check_of(block) {
         return Err(BlockFault::Check { block: place });
     }
@@ -36,7 +37,7 @@ pub fn check_seal(block: &[u8], place: usize) -> Result<(), BlockFault>
 fn count_right(blocks: usize, place: usize, count: usize) -> bool
     ensures { result ≡ count_right blocks place count }
 {
-    if place < blocks && blocks - place > 1 {
+    if blocks.saturating_sub(place) > 1 {
         count == 126
     } else {
         count <= 126 && (place == 0 || count >= 1)

@@ -1,5 +1,5 @@
 use Rattle.std.proofs.Common.{◌≡◌, ◌-◌, ◌+◌, ◌*◌, ◌<◌, ◌≤◌, drop, length, get_or, sym, ap, ap₂, ◌∙◌, mul-le-mul, length-drop, arith}
-use Rattle.std.specs.Iterator.Adapters.{enumerate_count, enumerate_source, take_count, take_source}
+use Rattle.std.specs.Iterator.Adapters.{enumerate_count, enumerate_source, take_source}
 use Rattle.std.specs.Slice.Iter.{iter_rest}
 use Rattle.blocks.specs.Format.{weighed}
 use Rattle.blocks.proofs.Sums.{left-more, weighed-more, weighed_past}

@@ -1,6 +1,5 @@
 use Rattle.std.proofs.Common.{rules, take, drop, eqb, sym, ap, ◌∙◌}
 use borrow.Author.Tests.{tests}
-use Rattle.std.specs.List.{list_all}
 use Rattle.std.proofs.lemmas.Slice.{between_is}
 use Rattle.std.proofs.lemmas.Iterator.{YieldsList-from_slice, YieldsList-from_take}
 use Rattle.std.proofs.lemmas.Iterator.Adapters.{YieldsList-from_skip}
