@@ -1,4 +1,4 @@
-use Rattle.std.proofs.Common.{◌≡◌, ℕ, ◌-◌, ◌+◌, ◌*◌, ◌<◌, ◌≤◌, false, ◌&&◌, leb, is_le, nat_cmp, Some, [], ◌++◌, length, drop, sym, ap, ap₂, ◌∙◌, length-drop, arith}
+use Rattle.std.proofs.Common.{◌≡◌, ℕ, ◌-◌, ◌*◌, ◌<◌, ◌≤◌, false, ◌&&◌, leb, is_le, nat_cmp, Some, [], length, drop, sym, ap, ap₂, ◌∙◌, length-drop, arith}
 use Rattle.std.specs.Iterator.Adapters.{enumerate_count, enumerate_source}
 use Rattle.std.specs.List.{flat_map}
 use Rattle.std.specs.declared.ops.RangeInclusive.{RangeInclusive}
