@@ -1,8 +1,8 @@
 -- Numbers in bytes: reading what was put, and putting what was read.
-use Rattle.std.proofs.Common.{◌≡◌, ℕ, zero, suc, ◌+◌, ◌*◌, ◌/◌, ◌%◌, ◌^◌, ◌<◌, ◌≤◌, List, [], ◌∷◌, length, get_or, take, replicate, refl, ap, add-one, arith}
+use Rattle.std.proofs.Common.{◌≡◌, ℕ, zero, suc, ◌+◌, ◌*◌, ◌/◌, ◌%◌, ◌^◌, ◌<◌, List, [], ◌∷◌, length, get_or, take, replicate, refl, ap, add-zero, arith}
 use native.Mathlib.Nat.{pow-succ'}
-use native.Mathlib.Numerals.{add-two}
-use Rattle.std.proofs.lemmas.List.{take_all, drop_all}
+use Rattle.std.proofs.lemmas.List.{take_all}
+use Rattle.std.specs.Int.{byte_worth, sum_through}
 use Rattle.blocks.specs.Bytes.{low_first, number, part, Bytes}
 
 take_none : (w : ℕ) → take {A = ℕ} w [] ≡ []
@@ -16,17 +16,21 @@ number_more w (suc p) [] = rw (take_none w) (omega arith)
 number_more w zero (b ∷ bs) = refl
 number_more w (suc p) (b ∷ bs) = number_more w p bs
 
-pub number-two : (p : ℕ) (bs : List ℕ) → number (part 2 p bs) ≡ get_or bs p 0 + 256 * get_or bs (p + 1) 0
+-- one byte more at the top
+number_top : (w p : ℕ) (bs : List ℕ) → number (part (suc w) p bs) ≡ number (part w p bs) + get_or bs (p + w) 0 * 256 ^ w
 unfolding number
-number-two p bs = rw add-one (omega (arith, number_more 1 p bs, number_more 0 (suc p) bs))
+number_top zero p bs = omega (arith, number_more 0 p bs, ap (λ k. get_or bs k 0) (add-zero p))
+number_top (suc w) p bs =
+    let place : suc p + w ≡ p + suc w = omega arith in
+    let rest : number (part (suc w) (suc p) bs) ≡ number (part w (suc p) bs) + get_or bs (p + suc w) 0 * 256 ^ w = rw place at (number_top w (suc p) bs) in
+    rw pow-succ' (omega (arith, number_more (suc w) p bs, number_more w p bs))
 
-pub number-four : (p : ℕ) (bs : List ℕ) → number (part 4 p bs) ≡ number (part 2 p bs) + 65536 * number (part 2 (p + 2) bs)
-number-four p bs =
-    rw add-two (omega (arith, number_more 3 p bs, number_more 2 (suc p) bs, number-two p bs, add-one p, ap (λ k. get_or bs k 0) (add-one p)))
-
-pub number_past : (w p : ℕ) (bs : List ℕ) → length bs ≤ p → number (part w p bs) ≡ 0
+-- bytes that are those from a place on hold their number
+pub number_from : (n p : ℕ) (held bs : List ℕ) → ((k : ℕ) → k < suc n → get_or held k 0 ≡ get_or bs (p + k) 0) → sum_through (λ i. byte_worth i (get_or held i 0)) n ≡ number (part (suc n) p bs)
 unfolding number
-number_past w p bs past = rw (drop_all p bs past, take_none w)
+number_from zero p held bs same = omega (arith, number_top 0 p bs, same 0 (omega arith))
+number_from (suc n) p held bs same =
+    omega (arith, number_top (suc n) p bs, number_from n p held bs (λ k less. same k (omega arith)), ap (λ b. b * 256 ^ suc n) (same (suc n) (omega arith)))
 
 pub length-low_first : (w x : ℕ) → length (low_first w x) ≡ w
 unfolding low_first

@@ -13,8 +13,8 @@ pub fn check_of(block: &[u8]) -> usize
     ensures { result ≡ check block.now }
 {
     let mut sum = 0;
-    for i in 0..508 {
-        sum += (i + 1) * byte_at(block, i) as usize;
+    for (i, byte) in block.iter().take(508).enumerate() {
+        sum += (i + 1) * usize::from(*byte);
     }
     sum
 }
@@ -23,10 +23,11 @@ pub fn check_of(block: &[u8]) -> usize
 pub fn check_seal(block: &[u8], place: usize) -> Result<(), BlockFault>
     ensures { result ≡ first_no (seal_questions place block.now) }
 {
+    // `as`, since `usize` has no `From<u32>`.
     if u32_at(block, 508) as usize != check_of(block) {
         return Err(BlockFault::Check { block: place });
     }
-    if u16_at(block, 0) as usize != place {
+    if usize::from(u16_at(block, 0)) != place {
         return Err(BlockFault::Place { block: place });
     }
     Ok(())
@@ -36,7 +37,7 @@ pub fn check_seal(block: &[u8], place: usize) -> Result<(), BlockFault>
 fn count_right(blocks: usize, place: usize, count: usize) -> bool
     ensures { result ≡ count_right blocks place count }
 {
-    if place < blocks && blocks - place > 1 {
+    if blocks.saturating_sub(place) > 1 {
         count == 126
     } else {
         count <= 126 && (place == 0 || count >= 1)
@@ -47,19 +48,14 @@ fn count_right(blocks: usize, place: usize, count: usize) -> bool
 fn zero_from(block: &[u8], start: usize) -> bool
     ensures { result ≡ all_zero (part (508 - start) start block.now) }
 {
-    for i in start..508 {
-        if byte_at(block, i) != 0 {
-            return false;
-        }
-    }
-    true
+    block.iter().take(508).skip(start).all(|byte| *byte == 0)
 }
 
 // Count right, in the block at a place of so many? Unused record bytes zero?
 pub fn check_fill(block: &[u8], place: usize, blocks: usize) -> Result<(), BlockFault>
     ensures { result ≡ first_no (fill_questions blocks place block.now) }
 {
-    let count = byte_at(block, 2) as usize;
+    let count = usize::from(byte_at(block, 2));
     if !count_right(blocks, place, count) {
         return Err(BlockFault::Count { block: place });
     }

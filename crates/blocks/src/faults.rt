@@ -7,7 +7,7 @@ ghost use Rattle.blocks.specs.Faults.{block_refusal, list_refusal, program_refus
 use std::fmt;
 
 // The part of the program that refuses.
-#[derive(Clone, Copy, PartialEq)]
+#[derive(Clone, Copy, Debug, PartialEq, Eq)]
 pub enum Layer {
     Block,
     List,
@@ -15,7 +15,7 @@ pub enum Layer {
 }
 
 // A block is refused for its check, its place, its record count or its unused bytes.
-#[derive(Clone, Copy, PartialEq)]
+#[derive(Clone, Copy, Debug, PartialEq, Eq)]
 pub enum BlockFault {
     Check { block: usize },
     Place { block: usize },
@@ -24,7 +24,7 @@ pub enum BlockFault {
 }
 
 // A list is refused for its length, another size than block 0 has, a pair, the order of pairs, points, or a block.
-#[derive(Clone, Copy, PartialEq)]
+#[derive(Clone, Copy, Debug, PartialEq, Eq)]
 pub enum ListFault {
     Length,
     Size { block: usize },
@@ -35,14 +35,14 @@ pub enum ListFault {
 }
 
 // The program refuses an input that is too long, or its list.
-#[derive(Clone, Copy, PartialEq)]
+#[derive(Clone, Copy, Debug, PartialEq, Eq)]
 pub enum ProgramFault {
     Long,
     List(ListFault),
 }
 
 // What a fault names. A place that it does not name is absent.
-#[derive(Clone, Copy, PartialEq)]
+#[derive(Clone, Copy, Debug, PartialEq, Eq)]
 pub struct Refusal {
     pub number: u16,
     pub layer: Layer,
@@ -85,29 +85,23 @@ impl BlockFault {
     }
 }
 
-// A refusal by the list itself.
-fn of_list(number: u16, block: Option<usize>, record: Option<usize>) -> Refusal
-    ensures { result ≡ record { number = number; layer = Layer.List; block = block; «record» = «record» } }
-{
-    Refusal {
-        number,
-        layer: Layer::List,
-        block,
-        record,
-    }
-}
-
 impl ListFault {
     pub fn refusal(self) -> Refusal
         ensures { result ≡ list_refusal self }
     {
-        match self {
-            ListFault::Length => of_list(11, None, None),
-            ListFault::Size { block } => of_list(14, Some(block), None),
-            ListFault::Pair { block, record } => of_list(17, Some(block), Some(record)),
-            ListFault::Order { block, record } => of_list(18, Some(block), Some(record)),
-            ListFault::Points { block, record } => of_list(19, Some(block), Some(record)),
-            ListFault::Block(fault) => fault.refusal(),
+        let (number, block, record) = match self {
+            ListFault::Length => (11, None, None),
+            ListFault::Size { block } => (14, Some(block), None),
+            ListFault::Pair { block, record } => (17, Some(block), Some(record)),
+            ListFault::Order { block, record } => (18, Some(block), Some(record)),
+            ListFault::Points { block, record } => (19, Some(block), Some(record)),
+            ListFault::Block(fault) => return fault.refusal(),
+        };
+        Refusal {
+            number,
+            layer: Layer::List,
+            block,
+            record,
         }
     }
 }

@@ -53,4 +53,4 @@ module _ (n : ℕ) (points : ℕ → Option ℕ) where
   }
 
 pub list_lawful : (s : ListSheet) → Lawful (sheet_of s)
-list_lawful s = sheet_by-lawful (min 256 (size_of s.bytes.now)) (found s.bytes.now) (omega arith) (omega arith)
+list_lawful s = sheet_by-lawful (min 256 (size_of s.records.bytes.now)) (found s.records.bytes.now) (omega arith) (omega arith)

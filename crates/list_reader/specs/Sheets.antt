@@ -20,4 +20,4 @@ found bytes key = halving (record_at bytes) key (record_count bytes) 0 (record_c
 
 -- What a list sheet means. Of bytes that make an accepted list this is the sheet that they hold.
 abbrev pub sheet_of : ListSheet → Meaning
-sheet_of s = sheet_by (min 256 (size_of s.bytes.now)) (found s.bytes.now)
+sheet_of s = sheet_by (min 256 (size_of s.records.bytes.now)) (found s.records.bytes.now)

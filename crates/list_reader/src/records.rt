@@ -1,36 +1,60 @@
-// The records of a list, by their places in it: every block but the last has 126.
-ghost use Rattle.std.specs.Prelude.{◌≡◌, ◌+◌, ◌*◌, ◌/◌, ◌%◌, ◌^◌, ◌<◌, length};
+// The records of a list, by their places in it: every block but the last has 126. What lies past the end is 0.
+ghost use Rattle.std.specs.Prelude.{◌≡◌, ◌+◌, ◌-◌, ◌*◌, ◌/◌, ◌%◌, ◌^◌, min};
 ghost use Rattle.blocks.specs.Format.{record_at, record_count};
+ghost use Rattle.list_reader.specs.Sheets.{found};
 
 use blocks::bytes::{byte_at, u16_at};
+use std::cmp::Ordering;
 
-pub(crate) fn record_count(bytes: &[u8]) -> usize
-    ensures value { result ≡ record_count bytes.now }
-    ensures bound { result < 126 * (length bytes.now / 512) + 256 }
-{
-    let full = (bytes.len() / 512).saturating_sub(1);
-    126 * full + byte_at(bytes, 512 * full + 2) as usize
+#[derive(Clone, Copy)]
+pub(crate) struct Records<'a> {
+    pub(crate) bytes: &'a [u8],
 }
 
-// Where record j begins.
+// Where record j begins. A place past the top of `usize` is past the end.
 fn start(j: usize) -> usize
-    requires { 512 * (j / 126) + 512 < 2 ^ 64 }
-    ensures { result ≡ 512 * (j / 126) + (4 + 4 * (j % 126)) }
+    ensures { result ≡ min (512 * (j / 126) + (4 + 4 * (j % 126))) (2 ^ 64 - 1) }
 {
-    512 * (j / 126) + (4 + 4 * (j % 126))
+    (j / 126)
+        .saturating_mul(512)
+        .saturating_add(4 + 4 * (j % 126))
 }
 
-pub(crate) fn key_at(bytes: &[u8], j: usize) -> usize
-    requires { j < 126 * (length bytes.now / 512) + 256 }
-    ensures value { result ≡ (record_at bytes.now j).key }
-    ensures bound { result < 65536 }
-{
-    u16_at(bytes, start(j)) as usize
-}
+impl Records<'_> {
+    pub(crate) fn count(&self) -> usize
+        ensures { result ≡ record_count self.now.bytes.now }
+    {
+        let full = (self.bytes.len() / 512).saturating_sub(1);
+        126 * full + usize::from(byte_at(self.bytes, 512 * full + 2))
+    }
 
-pub(crate) fn points_at(bytes: &[u8], j: usize) -> usize
-    requires { j < 126 * (length bytes.now / 512) + 256 }
-    ensures { result ≡ (record_at bytes.now j).points }
-{
-    u16_at(bytes, start(j) + 2) as usize
+    pub(crate) fn key(&self, j: usize) -> u16
+        ensures { result ≡ (record_at self.now.bytes.now j).key }
+    {
+        u16_at(self.bytes, start(j))
+    }
+
+    pub(crate) fn points(&self, j: usize) -> u16
+        ensures { result ≡ (record_at self.now.bytes.now j).points }
+    {
+        u16_at(self.bytes, start(j).saturating_add(2))
+    }
+
+    // The points in the record with a key. The records are in order, so each turn halves what is left; it is done by hand,
+    // since no slice holds them: each block has a head and a check.
+    pub(crate) fn find(&self, key: usize) -> Option<u16>
+        ensures { result ≡ found self.now.bytes.now key }
+    {
+        let mut low = 0;
+        let mut high = self.count();
+        while low < high {
+            let middle = low + (high - low) / 2;
+            match usize::from(self.key(middle)).cmp(&key) {
+                Ordering::Equal => return Some(self.points(middle)),
+                Ordering::Less => low = middle + 1,
+                Ordering::Greater => high = middle,
+            }
+        }
+        None
+    }
 }

@@ -6,45 +6,21 @@ ghost use Rattle.list_reader.specs.Laws.{list_lawful};
 ghost use Rattle.list_reader.specs.Sheets.{found, sheet_of};
 
 use crate::asking::check_list;
-use crate::records::{key_at, points_at, record_count};
+use crate::records::Records;
 use blocks::bytes::byte_at;
 use blocks::faults::{ListFault, ProgramFault};
 use sheets::sheet::{Points, Sheet};
 
 #[derive(Clone, Copy)]
 pub struct ListSheet<'a> {
-    bytes: &'a [u8],
-}
-
-// The points in the record with a key: the records are in order, so each turn halves what is left.
-fn find(bytes: &[u8], key: usize) -> Option<usize>
-    ensures { result ≡ found bytes.now key }
-{
-    let mut low = 0;
-    let mut high = record_count(bytes);
-    while low < high {
-        let middle = low + (high - low) / 2;
-        let here = key_at(bytes, middle);
-        if here == key {
-            return Some(points_at(bytes, middle));
-        }
-        if here < key {
-            low = middle + 1;
-        } else {
-            high = middle;
-        }
-    }
-    None
+    records: Records<'a>,
 }
 
 // Points that two that fit may have.
-fn fair(points: Option<usize>) -> Option<usize>
+fn fair(points: Option<u16>) -> Option<u16>
     ensures { result ≡ fair_of points }
 {
-    match points {
-        Some(points) if points < 65535 => Some(points),
-        _ => None,
-    }
+    points.filter(|points| *points < 65535)
 }
 
 impl<'a> ListSheet<'a> {
@@ -53,19 +29,21 @@ impl<'a> ListSheet<'a> {
         ensures { elim result [ Ok s ↦ (judged bytes.now ≡ Ok tt) × (sheet_of s ≡ meaning_of bytes.now) | Err e ↦ judged bytes.now ≡ Err e ] }
     {
         check_list(bytes)?;
-        Ok(ListSheet { bytes })
+        Ok(ListSheet {
+            records: Records { bytes },
+        })
     }
 
     // The points of two that fit.
-    fn points_of(&self, u: usize, v: usize) -> Option<usize>
-        ensures { result ≡ known (min 256 (size_of self.now.bytes.now)) (found self.now.bytes.now) u v }
+    fn points_of(&self, u: usize, v: usize) -> Option<u16>
+        ensures { result ≡ known (min 256 (size_of self.now.records.bytes.now)) (found self.now.records.bytes.now) u v }
     {
         let low = u.min(v);
         let high = u.max(v);
         if low >= high || high >= self.size() {
             return None;
         }
-        fair(find(self.bytes, low + 256 * high))
+        fair(self.records.find(low + 256 * high))
     }
 }
 
@@ -75,7 +53,7 @@ impl Sheet for ListSheet<'_> {
     ghost lawful = { list_lawful };
 
     fn size(&self) -> usize {
-        byte_at(self.bytes, 3) as usize + 1
+        usize::from(byte_at(self.records.bytes, 3)) + 1
     }
 
     fn fits(&self, u: usize, v: usize) -> bool {
@@ -83,7 +61,7 @@ impl Sheet for ListSheet<'_> {
     }
 
     fn points(&self, u: usize, v: usize) -> Points {
-        self.points_of(u, v).unwrap_or(0) as Points
+        self.points_of(u, v).map_or(0, Points::from)
     }
 }
 

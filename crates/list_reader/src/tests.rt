@@ -11,39 +11,32 @@ fn sheet_a() -> [u8; 512] {
         0u8, 0, 5, 3, 0, 1, 5, 0, 0, 2, 7, 0, 0, 3, 1, 0, 1, 3, 9, 0, 2, 3, 4, 0,
     ];
     let mut block = [0; 512];
-    for i in 0..24 {
-        block[i] = start[i];
-    }
+    block[..24].copy_from_slice(&start);
     block[508] = 152;
     block[509] = 2;
     block
 }
 
 // The block with the right check.
-fn sealed(block: [u8; 512]) -> [u8; 512] {
-    let check = check_of(&block);
-    let mut block = block;
-    block[508] = (check % 256) as u8;
-    block[509] = (check / 256 % 256) as u8;
-    block[510] = (check / 65536 % 256) as u8;
+fn sealed(mut block: [u8; 512]) -> [u8; 512] {
+    let check = check_of(&block).to_le_bytes();
+    block[508..].copy_from_slice(&check[..4]);
     block
 }
 
 // The block of zeros with one byte changed, and the right check.
 fn changed(place: usize, byte: u8) -> [u8; 512] {
     let mut block = [0; 512];
-    if place < 512 {
-        block[place] = byte;
+    if let Some(slot) = block.get_mut(place) {
+        *slot = byte;
     }
     sealed(block)
 }
 
 fn both(first: [u8; 512], second: [u8; 512]) -> [u8; 1024] {
     let mut bytes = [0; 1024];
-    for i in 0..512 {
-        bytes[i] = first[i];
-        bytes[512 + i] = second[i];
-    }
+    bytes[..512].copy_from_slice(&first);
+    bytes[512..].copy_from_slice(&second);
     bytes
 }
 

@@ -1,9 +1,6 @@
-use Rattle.std.proofs.Common.{sym, arith}
-use Rattle.blocks.proofs.Numbers.{number-two, number_past}
+use Rattle.std.proofs.Common.{◌∙◌}
+use Rattle.blocks.proofs.Numbers.{number_from}
 use Rattle.blocks.proofs.bytes.u16_at.Goals as goal
 
-pub returns-then-place-bytes : goal.returns-then-place-bytes
-returns-then-place-bytes c = sym (number_past 2 c.args.place c.args.bytes.now c.if-place-bytes.true)
-
 pub returns : goal.returns
-returns c = omega (arith, number-two c.args.place c.args.bytes.now)
+returns c = c.from_le_bytes.ensures ∙ number_from 1 c.args.place c.array_at.result c.args.bytes.now c.array_at.ensures

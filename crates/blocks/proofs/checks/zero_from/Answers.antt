@@ -1,20 +1,15 @@
-use Rattle.std.proofs.Common.{sym, ◌∙◌, arith}
-use Rattle.std.proofs.lemmas.Bool.Decides.{nat_tests}
-use Rattle.blocks.proofs.Sums.{all_zero-more, all_zero-all}
+use Rattle.std.proofs.Common.{rules, take, drop, eqb, sym, ap, ◌∙◌}
+use borrow.Author.Tests.{tests}
+use Rattle.std.proofs.lemmas.Slice.{between_is}
+use Rattle.std.proofs.lemmas.Iterator.{YieldsList-from_slice, YieldsList-from_take}
+use Rattle.std.proofs.lemmas.Iterator.Adapters.{YieldsList-from_skip}
+use Rattle.std.proofs.lemmas.Iterator.Search.{all_from_yields_List}
+use Rattle.blocks.specs.Bytes.{all_zero}
+use Rattle.blocks.proofs.Sums.{all_zero-list_all}
 use Rattle.blocks.proofs.checks.zero_from.Goals as goal
-
-pub returns-then-byte_at-ne0 : goal.returns-then-byte_at-ne0
-returns-then-byte_at-ne0 c =
-    let step = all_zero-more 508 c.loop-i.i c.args.block.now (omega arith) in
-    let same = c.loop-i.invariant in
-    grind (arith, nat_tests)
-
-pub loop-i-preserved : goal.loop-i-preserved
-loop-i-preserved c =
-    let step = all_zero-more 508 c.loop-i.i c.args.block.now (omega arith) in
-    let same = c.loop-i.invariant in
-    grind (arith, nat_tests)
 
 pub returns : goal.returns
 returns c =
-    sym (sym c.loop-i.invariant ∙ all_zero-all 508 c.loop-i.i c.args.block.now (omega arith))
+    let block = c.args.block.now in
+    let chain = YieldsList-from_skip c.args.start (YieldsList-from_take 508 (YieldsList-from_slice block cc) (cc)) (cc) in
+    all_from_yields_List (λ b. eqb b 0) _ _ c.all.result c.all.ensures.ran chain (λ x b q k. search (rules, tests)) ∙ (all_zero-list_all (drop c.args.start (take 508 block)) ∙ ap all_zero (sym (between_is block c.args.start 508)))

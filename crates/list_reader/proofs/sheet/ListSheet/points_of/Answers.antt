@@ -13,5 +13,5 @@ returns-then-low-high c =
 
 pub returns : goal.returns
 returns c =
-    let bytes = c.args.self.now.bytes.now in
+    let bytes = c.args.self.now.records.bytes.now in
     c.fair.ensures ∙ (ap fair c.find.ensures ∙ fair-known (min 256 (size_of bytes)) (found bytes) c.args.u c.args.v c.min-low.result c.max-high.result c.min-low.ensures c.max-high.ensures c.if-low-high.false (omega arith))
