@@ -1,6 +1,6 @@
 pub mod Keys
-pub mod Replaced
 pub mod Sizes
+pub mod Filling
 pub mod Steps
 pub mod Chunks
 pub mod Ordered

@@ -1,17 +1,11 @@
 -- The two round trips: what is written reads back as the sheet, and what is read is written as the same bytes.
-use Rattle.std.proofs.Common.{◌≡◌, ℕ, ◌+◌, ◌-◌, ◌<◌, Bool, true, false, cond, leb, List, ◌++◌, length, get_or, take, drop, Ok, Err, Result, sym, refl, ap, ◌∙◌, subst, ap₂, arith}
-use Rattle.std.proofs.lemmas.List.{take_at}
+use Rattle.std.proofs.Common.{◌≡◌, ℕ, ◌+◌, ◌-◌, ◌<◌, List, get_or, Ok, sym, ap, ◌∙◌, subst, ap₂, arith}
 use Rattle.sheets.specs.Meaning.{Meaning, Lawful}
 use Rattle.blocks.specs.Bytes.{Bytes}
 use Rattle.blocks.specs.Format.{look, meaning_of, packed, records, records_of, sheet_by, size_of, written}
 use Rattle.blocks.specs.Questions.{judged}
 use Rattle.blocks.proofs.Accepted.{accepted-from-judged, judged-from-accepted}
-use Rattle.list_writer.specs.declared.faults.CopyFault.{CopyFault}
-use Rattle.list_writer.specs.declared.faults.CopyFault.TheVariants.{Write}
-use Rattle.list_writer.specs.declared.faults.WriteFault.{WriteFault}
-use Rattle.list_writer.specs.declared.faults.WriteFault.TheVariants.{Short}
-use Rattle.list_writer.specs.Buffers.{buffer_after, write_judged}
-use Rattle.list_writer.specs.Rounds.{RoundTrip, buffer_copied, buffer_kept, copy_asked, copy_judged}
+use Rattle.list_writer.specs.Rounds.{RoundTrip}
 use Rattle.list_writer.proofs.Canonical.{accepted-ordered, packed-again}
 use Rattle.list_writer.proofs.Looks.{records-again, records-ordered, sheet-found}
 use Rattle.list_writer.proofs.Ordered.{Ordered}
@@ -52,36 +46,3 @@ round_trip m lawful = record {
   alike = meaning-written m lawful;
   only = λ bytes all ok same. sym (written-meaning bytes all ok) ∙ ap written same;
 }
-
--- a refusal to write, as a copy holds it
-abbrev pub held : Result ℕ WriteFault → Result ℕ CopyFault
-held (Ok n) = Ok n
-held (Err fault) = Err (Write fault)
-
-module _ (bytes buffer : List ℕ) (m : Meaning) (ok : judged bytes ≡ Ok tt) (same : written m ≡ bytes) where
-  pub copy-value : held (write_judged m buffer) ≡ copy_judged bytes buffer
-  copy-value =
-      ap (λ w. held (cond (leb (length w) (length buffer)) (Ok (length w)) (Err Short))) same ∙ (held-cond (leb (length bytes) (length buffer)) ∙ sym (ap (copy_asked bytes buffer) ok))
-    where
-      held-cond : (b : Bool) → held (cond b (Ok (length bytes)) (Err Short)) ≡ cond b (Ok (length bytes)) (Err (Write Short))
-      held-cond true = refl
-      held-cond false = refl
-
-  pub copy-after : buffer_after m buffer ≡ buffer_copied bytes buffer
-  copy-after =
-      ap (λ w. cond (leb (length w) (length buffer)) (w ++ drop (length w) buffer) buffer) same ∙ (kept-cond (leb (length bytes) (length buffer)) ∙ sym (ap (λ j. buffer_kept bytes buffer (copy_asked bytes buffer j)) ok))
-    where
-      kept-cond : (b : Bool) → cond b (bytes ++ drop (length bytes) buffer) buffer ≡ buffer_kept bytes buffer (cond b (Ok (length bytes)) (Err (Write Short)))
-      kept-cond true = refl
-      kept-cond false = refl
-
--- what a writer that was not refused leaves at the start of the buffer
-pub written-part : (m : Meaning) (buffer now : List ℕ) (count : ℕ) → Ok count ≡ write_judged m buffer → now ≡ buffer_after m buffer → take count now ≡ written m
-written-part m buffer now count value after =
-    go (leb (length (written m)) (length buffer)) value after
-  where
-    go : (b : Bool) → Ok count ≡ cond b (Ok (length (written m))) (Err Short) → now ≡ cond b (written m ++ drop (length (written m)) buffer) buffer → take count now ≡ written m
-    go true value after =
-        let long : count ≡ length (written m) = cc in
-        ap₂ take long after ∙ take_at (written m) (drop (length (written m)) buffer) (length (written m)) refl
-    go false value after = let z : ◌≡◌ {A = ℕ} 0 1 = cc in absurd (omega arith)

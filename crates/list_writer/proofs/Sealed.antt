@@ -58,7 +58,7 @@ module _ (low place : ℕ) (rs : List Record) (few : length rs ≤ 126) where
   abbrev seal : List ℕ
   seal = low_first 4 (check (content low place rs))
 
-  bytes-content : low < 256 → Bytes (content low place rs)
+  pub bytes-content : low < 256 → Bytes (content low place rs)
   unfolding content low_first
   bytes-content byte =
       (omega arith, (omega arith, (omega arith, (byte, All-append (λ b. b < 256) (flat_map record_bytes rs) zeros (bytes-joined record_bytes bytes-record_bytes rs) (bytes-zeros (504 - 4 * length rs))))))

@@ -1,5 +1,5 @@
 -- What writing does to a buffer, and when it is refused.
-use Rattle.std.specs.Prelude.{ℕ, ◌+◌, cond, List, ◌++◌, length, take, drop, Ok, Err, Result, nat_le}
+use Rattle.std.specs.Prelude.{ℕ, cond, List, ◌++◌, length, drop, Ok, Err, Result, nat_le}
 use Rattle.sheets.specs.Meaning.{Meaning}
 use Rattle.blocks.specs.Format.{written}
 use Rattle.list_writer.specs.declared.faults.WriteFault.{WriteFault}
@@ -16,7 +16,3 @@ write_judged m buffer = cond (nat_le (length (written m)) (length buffer)) (Ok (
 abbrev pub buffer_after : Meaning → List ℕ → List ℕ
 buffer_after m buffer =
     cond (nat_le (length (written m)) (length buffer)) (written m ++ drop (length (written m)) buffer) buffer
-
--- the buffer with these bytes from a place on, and all others as they were
-unfoldable pub replaced : ℕ → List ℕ → List ℕ → List ℕ
-replaced place ys bytes = take place bytes ++ (ys ++ drop (place + length ys) bytes)

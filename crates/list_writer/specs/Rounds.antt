@@ -5,9 +5,13 @@ use Rattle.blocks.specs.Bytes.{Bytes}
 use Rattle.blocks.specs.Format.{meaning_of, written}
 use Rattle.blocks.specs.Questions.{judged}
 use Rattle.blocks.specs.declared.faults.ListFault.{ListFault}
+use Rattle.list_reader.specs.declared.sheet.ListSheet.{ListSheet}
+use Rattle.list_reader.specs.Sheets.{sheet_of}
+use Rattle.list_writer.specs.Buffers.{write_judged}
 use Rattle.list_writer.specs.declared.faults.CopyFault.{CopyFault}
 use Rattle.list_writer.specs.declared.faults.CopyFault.TheVariants.{Write}
 use Rattle.list_writer.specs.declared.faults.CopyFault.TheVariants.{List as Listed}
+use Rattle.list_writer.specs.declared.faults.WriteFault.{WriteFault}
 use Rattle.list_writer.specs.declared.faults.WriteFault.TheVariants.{Short}
 
 -- The bytes of a sheet are an accepted list that reads as that sheet, and the only one.
@@ -31,3 +35,8 @@ buffer_kept bytes buffer (Err _) = buffer
 
 abbrev pub buffer_copied : List ℕ → List ℕ → List ℕ
 buffer_copied bytes buffer = buffer_kept bytes buffer (copy_judged bytes buffer)
+
+-- the buffer was long enough for the list, and what is read back of it answers alike; or the list was not written
+abbrev pub ReadBack : Meaning → List ℕ → Result ListSheet WriteFault → Type 0
+ReadBack m buffer (Ok s) = (write_judged m buffer ≡ Ok (length (written m))) × (sheet_of s ≡ m)
+ReadBack m buffer (Err fault) = write_judged m buffer ≡ Err fault

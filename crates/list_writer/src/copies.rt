@@ -1,8 +1,6 @@
 // A list that is read and written again, and a sheet that is written and read back.
-ghost use Rattle.std.specs.Prelude.{◌≡◌, Ok, Err};
-ghost use Rattle.list_reader.specs.Sheets.{sheet_of};
-ghost use Rattle.list_writer.specs.Buffers.{write_judged};
-ghost use Rattle.list_writer.specs.Rounds.{copy_judged, buffer_copied};
+ghost use Rattle.std.specs.Prelude.{◌≡◌};
+ghost use Rattle.list_writer.specs.Rounds.{ReadBack, copy_judged, buffer_copied};
 
 use crate::faults::{CopyFault, WriteFault};
 use crate::writing::write_list;
@@ -21,11 +19,11 @@ pub fn copy_list(bytes: &[u8], buffer: &mut [u8]) -> Result<usize, CopyFault>
 
 // Writes a sheet and reads it back: a sheet that answers alike.
 pub fn read_back<'a, S: Sheet>(sheet: &S, buffer: &'a mut [u8]) -> Result<ListSheet<'a>, WriteFault>
-    ensures { elim result [ Ok s ↦ sheet_of s ≡ S.Sheet.meaning sheet.now | Err e ↦ write_judged (S.Sheet.meaning sheet.now) buffer.old ≡ Err e ] }
+    ensures { ReadBack (S.Sheet.meaning sheet.now) buffer.old result }
 {
     let count = write_list(sheet, buffer)?;
-    match ListSheet::new(&buffer[..count]) {
-        Ok(list) => Ok(list),
-        Err(_) => Err(WriteFault::Short),
-    }
+    let Ok(list) = ListSheet::new(&buffer[..count]) else {
+        unreachable!()
+    };
+    Ok(list)
 }

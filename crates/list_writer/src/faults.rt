@@ -5,7 +5,7 @@ ghost use Rattle.list_writer.specs.declared.faults.CopyFault.TheVariants.{List a
 
 use blocks::faults::ListFault;
 
-#[derive(Clone, Copy, PartialEq)]
+#[derive(Clone, Copy, PartialEq, Eq, Debug)]
 pub enum WriteFault {
     Short,
 }
@@ -21,7 +21,7 @@ impl WriteFault {
 }
 
 // A copy is refused as its reading or as its writing is.
-#[derive(Clone, Copy)]
+#[derive(Clone, Copy, PartialEq)]
 pub enum CopyFault {
     List(ListFault),
     Write(WriteFault),

@@ -1,8 +1,27 @@
-// The records of a sheet, by their keys.
-ghost use Rattle.std.specs.Prelude.{◌≡◌, ◌+◌, ◌*◌, ◌<◌, ◌≤◌, ◌∷◌, length};
-ghost use Rattle.blocks.specs.Format.{has_record, record_of, records, records_from};
+// The records of a sheet, in the order of their keys.
+ghost use Rattle.std.specs.Prelude.{◌≡◌, ◌+◌, ◌<◌, [], ◌∷◌, IfSome, MatchOption};
+ghost use Rattle.std.specs.Iterator.{YieldsFirstBy, item_count};
+ghost use Rattle.blocks.specs.Format.{has_record, record_bytes, record_of, records, records_from};
+ghost use Rattle.list_writer.specs.Records.{record_meant, to_come};
 
 use sheets::sheet::Sheet;
+
+// The record of a pair u < v: its key u + 256 v, and its points.
+#[derive(Clone, Copy, Drop)]
+pub(crate) struct Record {
+    key: u16,
+    points: u16,
+}
+
+impl Record {
+    pub(crate) fn to_bytes(self) -> [u8; 4]
+        ensures { result ≡ record_bytes (record_meant self) }
+    {
+        let [u, v] = self.key.to_le_bytes();
+        let [low, high] = self.points.to_le_bytes();
+        [u, v, low, high]
+    }
+}
 
 // Whether the pair of a key has a record.
 fn has_record<S: Sheet>(sheet: &S, key: usize) -> bool
@@ -13,29 +32,43 @@ fn has_record<S: Sheet>(sheet: &S, key: usize) -> bool
     u < v && sheet.fits(u, v)
 }
 
-// How many records there are.
-pub(crate) fn count_records<S: Sheet>(sheet: &S) -> usize
-    ensures value { result ≡ length (records (S.Sheet.meaning sheet.now)) }
-    ensures bound { result ≤ 65536 }
+// The first key from the given one on that has a record.
+fn next_key<S: Sheet>(sheet: &S, from: usize) -> Option<usize>
+    ensures records { MatchOption result (records_from (S.Sheet.meaning sheet.now) from ≡ []) (λ key. records_from (S.Sheet.meaning sheet.now) from ≡ record_of (S.Sheet.meaning sheet.now) key ∷ records_from (S.Sheet.meaning sheet.now) (key + 1)) }
+    ensures bound { IfSome result (λ key. key < 65536) }
 {
-    let mut count = 0;
-    for key in 0..256 * sheet.size() {
-        if has_record(sheet, key) {
-            count += 1;
-        }
-    }
-    count
+    (from..256 * sheet.size()).find(|key| has_record(sheet, *key))
 }
 
-// The first key from the given one on that has a record.
-pub(crate) fn next_key<S: Sheet>(sheet: &S, from: usize) -> usize
-    requires { 0 < length (records_from (S.Sheet.meaning sheet.now) from) }
-    ensures records { records_from (S.Sheet.meaning sheet.now) from ≡ record_of (S.Sheet.meaning sheet.now) result ∷ records_from (S.Sheet.meaning sheet.now) (result + 1) }
-    ensures bound { result < 65536 }
-{
-    let mut key = from;
-    while !has_record(sheet, key) {
-        key += 1;
+// A walk through the records, from the key on that is next.
+#[derive(Drop)]
+pub(crate) struct Records<'a, S> {
+    sheet: &'a S,
+    next: usize,
+}
+
+impl<'a, S: Sheet> Records<'a, S> {
+    pub(crate) fn of(sheet: &'a S) -> Records<'a, S>
+        ensures { to_come S.Sheet.meaning result ≡ records (S.Sheet.meaning sheet.now) }
+    {
+        Records { sheet, next: 0 }
     }
-    key
+}
+
+impl<'a, S: Sheet> Iterator for Records<'a, S> {
+    type Item = Record;
+
+    ghost next_gives = { YieldsFirstBy record_meant (to_come S.Sheet.meaning) };
+
+    ghost remaining = { item_count (to_come S.Sheet.meaning) };
+
+    fn next(&mut self) -> Option<Record> {
+        let key = next_key(self.sheet, self.next)?;
+        let points = self.sheet.points(key % 256, key / 256);
+        self.next = key + 1;
+        Some(Record {
+            key: key as u16,
+            points: points as u16,
+        })
+    }
 }

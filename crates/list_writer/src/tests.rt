@@ -1,5 +1,6 @@
 // What is written of some sheets, read back and copied.
 use crate::copies::{copy_list, read_back};
+use crate::faults::WriteFault;
 use crate::writing::write_list;
 use blocks::checks::check_of;
 use list_reader::asking::check_list;
@@ -11,18 +12,13 @@ const TABLE_A: [u16; 6] = [5, 7, 65535, 1, 9, 4];
 
 #[test]
 fn sheet_a_as_a_list(rt: HostRuntime) -> Result<(), Fail> {
-    let Ok(sheet) = TableSheet::new(4, &TABLE_A) else {
-        return Err(Fail::new("refused"));
-    };
+    let sheet = TableSheet::new(4, &TABLE_A)?;
     let mut buffer = [7u8; 600];
-    let Ok(count) = write_list(&sheet, &mut buffer) else {
-        return Err(Fail::new("too short"));
-    };
-    assert_eq!(rt; count, 512);
+    assert_eq!(rt; write_list(&sheet, &mut buffer)?, 512);
     let start = [
         0u8, 0, 5, 3, 0, 1, 5, 0, 0, 2, 7, 0, 0, 3, 1, 0, 1, 3, 9, 0, 2, 3, 4, 0, 0,
     ];
-    assert_eq!(rt; &buffer[0..25], &start[0..25]);
+    assert_eq!(rt; &buffer[0..25], &start[..]);
     assert_eq!(rt; check_of(&buffer), 664);
     assert_eq!(rt; &buffer[507..514], &[0u8, 152, 2, 0, 0, 7, 7][..]);
     Ok(())
@@ -30,15 +26,11 @@ fn sheet_a_as_a_list(rt: HostRuntime) -> Result<(), Fail> {
 
 #[test]
 fn short_buffer(rt: HostRuntime) -> Result<(), Fail> {
-    let Ok(sheet) = TableSheet::new(4, &TABLE_A) else {
-        return Err(Fail::new("refused"));
-    };
+    let sheet = TableSheet::new(4, &TABLE_A)?;
     let mut buffer = [7u8; 511];
-    match write_list(&sheet, &mut buffer) {
-        Ok(_) => return Err(Fail::new("written")),
-        Err(fault) => assert_eq!(rt; fault.number(), 51),
-    }
-    assert_eq!(rt; &buffer[0..4], &[7u8, 7, 7, 7][..]);
+    let written = write_list(&sheet, &mut buffer);
+    assert_eq!(rt; written.map_err(WriteFault::number), Err(51));
+    assert_eq!(rt; &buffer[0..4], &[7u8; 4][..]);
     Ok(())
 }
 
@@ -46,14 +38,10 @@ fn short_buffer(rt: HostRuntime) -> Result<(), Fail> {
 #[test]
 fn two_blocks(rt: HostRuntime) -> Result<(), Fail> {
     let entries = [3u16; 136];
-    let Ok(sheet) = TableSheet::new(17, &entries) else {
-        return Err(Fail::new("refused"));
-    };
+    let sheet = TableSheet::new(17, &entries)?;
     let mut buffer = [7u8; 1100];
     {
-        let Ok(list) = read_back(&sheet, &mut buffer) else {
-            return Err(Fail::new("too short"));
-        };
+        let list = read_back(&sheet, &mut buffer)?;
         assert_eq!(rt; list.size(), 17);
         assert!(rt; list.fits(16, 15) && !list.fits(16, 17));
         assert_eq!(rt; list.points(4, 16), 3);
@@ -67,16 +55,15 @@ fn two_blocks(rt: HostRuntime) -> Result<(), Fail> {
     // The first pair of the last block is now the last of the block before it.
     copied[516] = buffer[504];
     copied[517] = buffer[505];
-    let sum = check_of(&copied[512..]);
-    copied[1020] = (sum % 256) as u8;
-    copied[1021] = (sum / 256 % 256) as u8;
-    match check_list(&copied[0..1024]) {
-        Ok(()) => Err(Fail::new("accepted")),
-        Err(fault) => {
-            let refusal = fault.refusal();
-            assert_eq!(rt; refusal.number, 18);
-            assert!(rt; refusal.block == Some(1) && refusal.record == Some(0));
-            Ok(())
-        }
-    }
+    let [low, high, ..] = check_of(&copied[512..]).to_le_bytes();
+    copied[1020] = low;
+    copied[1021] = high;
+    let Err(fault) = check_list(&copied[0..1024]) else {
+        return Err(Fail::new("accepted"));
+    };
+    let refusal = fault.refusal();
+    assert_eq!(rt; refusal.number, 18);
+    assert_eq!(rt; refusal.block, Some(1));
+    assert_eq!(rt; refusal.record, Some(0));
+    Ok(())
 }

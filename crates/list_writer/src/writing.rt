@@ -1,88 +1,40 @@
 // Writing a list into a lent buffer, one block after another.
-ghost use Rattle.std.specs.Prelude.{◌≡◌, ◌+◌, ◌-◌, ◌*◌, ◌<◌, ◌≤◌, ◌++◌, length, take, drop};
-ghost use Rattle.std.specs.List.{flat_map};
-ghost use Rattle.blocks.specs.Bytes.{low_first};
-ghost use Rattle.blocks.specs.Format.{records_from, record_bytes, content, sealed};
-ghost use Rattle.list_writer.specs.Buffers.{buffer_after, replaced, write_judged};
+ghost use Rattle.std.specs.Prelude.{◌≡◌, ◌≤◌, length, take, drop};
+ghost use Rattle.blocks.specs.Format.{blocks_for, content, records, sealed};
+ghost use Rattle.list_writer.specs.Buffers.{buffer_after, write_judged};
+ghost use Rattle.list_writer.specs.Records.{to_come};
 ghost use Rattle.list_writer.specs.Rounds.{RoundTrip};
 ghost use Rattle.list_writer.specs.Worked.{WorkedLists};
 
 use crate::faults::WriteFault;
-use crate::records::{count_records, next_key};
+use crate::records::Records;
 use blocks::checks::check_of;
 use sheets::sheet::Sheet;
 
-// Puts a number into so many bytes from a place on, low byte first.
-fn put(bytes: &mut [u8], place: usize, width: usize, x: usize)
-    requires { place + width ≤ length bytes.old }
-    ensures { bytes.new ≡ replaced place (low_first width x) bytes.old }
+// The block at a place: the next records, 126 at most, and zeros behind them. The byte `low` is n − 1.
+fn next_block<S: Sheet>(place: u16, low: u8, records: &mut Records<'_, S>) -> [u8; 512]
+    ensures block { result ≡ sealed (content low place (take 126 (to_come S.Sheet.meaning records.old))) }
+    ensures rest { to_come S.Sheet.meaning records.new ≡ drop 126 (to_come S.Sheet.meaning records.old) }
 {
-    let mut rest = x;
-    for i in place..place + width {
-        bytes[i] = (rest % 256) as u8;
-        rest /= 256;
+    let mut block = [0; 512];
+    block[..2].copy_from_slice(&place.to_le_bytes());
+    block[3] = low;
+    for i in 0..126 {
+        let Some(record) = records.next() else { break };
+        block[2] += 1;
+        block[4 + 4 * i..8 + 4 * i].copy_from_slice(&record.to_bytes());
     }
+    let check = check_of(&block) as u32;
+    block[508..].copy_from_slice(&check.to_le_bytes());
+    block
 }
 
-// Puts so many records from a key on at a place. The answer is the key to go on from.
-fn write_records<S: Sheet>(
-    sheet: &S,
-    bytes: &mut [u8],
-    start: usize,
-    count: usize,
-    from: usize,
-) -> usize
-    requires { (start + 4 * count ≤ length bytes.old) × (count ≤ length (records_from (S.Sheet.meaning sheet.now) from)) }
-    ensures bytes { bytes.new ≡ replaced start (flat_map record_bytes (take count (records_from (S.Sheet.meaning sheet.now) from))) bytes.old }
-    ensures rest { records_from (S.Sheet.meaning sheet.now) result ≡ drop count (records_from (S.Sheet.meaning sheet.now) from) }
+// How many blocks the list of a sheet has.
+fn block_count<S: Sheet>(sheet: &S) -> usize
+    ensures value { result ≡ blocks_for (length (records (S.Sheet.meaning sheet.now))) }
+    ensures bound { result ≤ 260 }
 {
-    let mut key = from;
-    for i in 0..count {
-        key = next_key(sheet, key);
-        let points = sheet.points(key % 256, key / 256);
-        put(bytes, start + 4 * i, 2, key);
-        put(bytes, start + 4 * i + 2, 2, points as usize);
-        key += 1;
-    }
-    key
-}
-
-// Puts all of a block but its check.
-fn write_content<S: Sheet>(
-    sheet: &S,
-    bytes: &mut [u8],
-    place: usize,
-    count: usize,
-    from: usize,
-) -> usize
-    requires { (512 * place + 512 ≤ length bytes.old) × ((count ≤ 126) × (count ≤ length (records_from (S.Sheet.meaning sheet.now) from))) }
-    ensures bytes { bytes.new ≡ replaced (512 * place) (content ((S.Sheet.meaning sheet.now).size - 1) place (take count (records_from (S.Sheet.meaning sheet.now) from))) bytes.old }
-    ensures rest { records_from (S.Sheet.meaning sheet.now) result ≡ drop count (records_from (S.Sheet.meaning sheet.now) from) }
-{
-    let start = 512 * place;
-    put(bytes, start, 2, place);
-    put(bytes, start + 2, 1, count);
-    put(bytes, start + 3, 1, sheet.size() - 1);
-    let next = write_records(sheet, bytes, start + 4, count, from);
-    put(bytes, start + 4 + 4 * count, 504 - 4 * count, 0);
-    next
-}
-
-fn write_block<S: Sheet>(
-    sheet: &S,
-    bytes: &mut [u8],
-    place: usize,
-    count: usize,
-    from: usize,
-) -> usize
-    requires { (512 * place + 512 ≤ length bytes.old) × ((count ≤ 126) × (count ≤ length (records_from (S.Sheet.meaning sheet.now) from))) }
-    ensures bytes { bytes.new ≡ replaced (512 * place) (sealed (content ((S.Sheet.meaning sheet.now).size - 1) place (take count (records_from (S.Sheet.meaning sheet.now) from)))) bytes.old }
-    ensures rest { records_from (S.Sheet.meaning sheet.now) result ≡ drop count (records_from (S.Sheet.meaning sheet.now) from) }
-{
-    let next = write_content(sheet, bytes, place, count, from);
-    let check = check_of(&bytes[512 * place..]);
-    put(bytes, 512 * place + 508, 4, check);
-    next
+    Records::of(sheet).count().div_ceil(126).max(1)
 }
 
 // Writes the list of a sheet, in as few blocks as possible.
@@ -92,14 +44,15 @@ pub fn write_list<S: Sheet>(sheet: &S, buffer: &mut [u8]) -> Result<usize, Write
     ensures round { RoundTrip (S.Sheet.meaning sheet.now) }
     ensures worked { WorkedLists }
 {
-    let count = count_records(sheet);
-    let blocks = ((count + 125) / 126).max(1);
+    let blocks = block_count(sheet);
     if buffer.len() < 512 * blocks {
         return Err(WriteFault::Short);
     }
-    let mut key = 0;
+    let low = (sheet.size() - 1) as u8;
+    let mut records = Records::of(sheet);
     for place in 0..blocks {
-        key = write_block(sheet, buffer, place, (count - 126 * place).min(126), key);
+        let block = next_block(place as u16, low, &mut records);
+        buffer[512 * place..512 * place + 512].copy_from_slice(&block);
     }
     Ok(512 * blocks)
 }

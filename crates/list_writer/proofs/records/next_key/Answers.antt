@@ -1,35 +1,10 @@
-use Rattle.std.proofs.Common.{◌≡◌, length, sym, ap, ◌∙◌, arith}
-use Rattle.blocks.specs.Format.{records_from}
-use Rattle.list_writer.proofs.Keys.{records_from-yes, records_from-no, some-inside}
+use Rattle.std.proofs.Common.{◌≡◌, true, false, rules, tests}
+use Rattle.std.proofs.lemmas.Iterator.{first_from_Range}
+use Rattle.blocks.specs.Format.{has_record}
+use Rattle.list_writer.proofs.Keys.{records_from-first}
 use Rattle.list_writer.proofs.records.next_key.Goals as goal
 
-pub loop-key-preserved : goal.loop-key-preserved
-loop-key-preserved g c =
+pub returns-clause-records : goal.returns-clause-records
+returns-clause-records g c =
     let m = g.S.Sheet.meaning c.args.sheet.now in
-    let same : records_from m c.args.from ≡ records_from m c.loop-key.key = c.loop-key.invariant in
-    let inside = some-inside m c.loop-key.key (omega (arith, ap length same)) in
-    same ∙ records_from-no m c.loop-key.key inside (sym c.loop-key-test.ensures)
-
-pub loop-key-smaller : goal.loop-key-smaller
-loop-key-smaller g c =
-    let m = g.S.Sheet.meaning c.args.sheet.now in
-    let same : records_from m c.args.from ≡ records_from m c.loop-key.key = c.loop-key.invariant in
-    let inside = some-inside m c.loop-key.key (omega (arith, ap length same)) in
-    omega arith
-
-pub overflow_add-key : goal.overflow_add-key
-overflow_add-key g c =
-    let m = g.S.Sheet.meaning c.args.sheet.now in
-    let same : records_from m c.args.from ≡ records_from m c.loop-key.key = c.loop-key.invariant in
-    let inside = some-inside m c.loop-key.key (omega (arith, ap length same)) in
-    omega (arith, (g.S.Sheet.lawful c.args.sheet.now).most)
-
-pub returns : goal.returns
-returns g c =
-    let m = g.S.Sheet.meaning c.args.sheet.now in
-    let same : records_from m c.args.from ≡ records_from m c.loop-key.key = c.loop-key.invariant in
-    let inside = some-inside m c.loop-key.key (omega (arith, ap length same)) in
-    record {
-      records = same ∙ records_from-yes m c.loop-key.key inside (sym c.loop-key-test.ensures);
-      bound = omega (arith, (g.S.Sheet.lawful c.args.sheet.now).most);
-    }
+    records_from-first m c.size.result c.args.from c.find.result c.size.ensures (first_from_Range _ _ _ _ (λ k. has_record m k ≡ true) (λ k. has_record m k ≡ false) c.find.ensures.ran (λ x q k. search (rules, tests)) (λ x q k. search (rules, tests)))
