@@ -13,5 +13,5 @@ returns c =
       entries = c.as_slice.result.now;
       holds = subst (λ (es : List ℕ). read text ≡ Ok (size ∷ es)) (sym c.as_slice.ensures.value) c.in_ok-table.ensures.value;
       accepted = c.in_ok-sheet.ensures.0;
-      reports = subst (λ (m : Meaning). Reports m c.in_ok-report.report) c.in_ok-sheet.ensures.1 c.in_ok-report.ensures;
+      reports = subst (λ (m : Meaning). Reports m c.of.result) c.in_ok-sheet.ensures.1 c.of.ensures;
     }
