@@ -17,5 +17,5 @@ pub record Reports (m : Meaning) (report : Report) : Type 0 where
   pub heaviest : FirstHeaviest m (members report.pairing.set) report.pairing.points
   pub numbers : report.numbers ≡ numbers_of m
   pub searched : Searched m (lesser colour path) 50 report.found
-  pub same : report.found.finished ≡ true → (members report.found.set ≡ members report.pairing.set) × (report.found.points ≡ report.pairing.points)
+  pub same : report.found.finished ≡ true → (members report.found.pairing.set ≡ members report.pairing.set) × (report.found.pairing.points ≡ report.pairing.points)
   pub promise : Promise m (lesser colour path)

@@ -10,7 +10,7 @@ returns g c =
     let found = c.search_for-found.result in
     let searched = c.search_for-found.ensures.found in
     let heaviest = c.best_pairing-pairing.ensures.heaviest in
-    let same = λ (done : found.finished ≡ true). only_one m (members pairing.set) (members found.set) pairing.points found.points heaviest (searched.first done) in
+    let same = λ (done : found.finished ≡ true). only_one m (members pairing.set) (members found.pairing.set) pairing.points found.pairing.points heaviest (searched.first done) in
     record {
       candidates = c.size-candidates.ensures;
       heaviest = heaviest;
