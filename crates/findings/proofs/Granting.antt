@@ -50,11 +50,6 @@ module _ (m : Meaning) (number : Number) (nodes : ℕ) where
     pub limit : s.nodes ≤ 1000000 * i
     pub ended : s.finished ≡ true → finished t ≡ true
 
-  pub sofar-none : (grants : ℕ) (u : State) (s : Summary) → s ≡ nothing → Sofar grants u 0 s u
-  sofar-none grants u s is =
-      subst (λ s. Sofar grants u 0 s u) (sym is)
-      (record { whole = λ rest. let same : grants - 0 ≡ grants = omega arith in ap (λ k. heard m number nothing u (replicate k (Grant nodes) ++ rest)) same; limit = omega arith; ended = λ e. absurd (grind (arith, nat_tests)) })
-
   next : (grants : ℕ) (u : State) (i : ℕ) (s : Summary) (t : State) → nodes ≤ 1000000 → i < grants → s.finished ≡ false → Sofar grants u i s t → Sofar grants u (i + 1) (noted s (one t).answer) (one t).next
   next grants u i s t le below going a =
       let left : grants - i ≡ suc (grants - (i + 1)) = omega arith in
@@ -70,11 +65,6 @@ module _ (m : Meaning) (number : Number) (nodes : ℕ) where
 
   pub sofar-finished : (grants : ℕ) (u : State) (i : ℕ) (s : Summary) (t : State) → s.finished ≡ true → Sofar grants u i s t → Leads m number u (replicate grants (Grant nodes)) s t
   sofar-finished grants u i s t said a rest = sym (heard-finished (grants - i) s t rest said (a.ended said)) ∙ a.whole rest
-
-  pub sofar-all : (grants : ℕ) (u : State) (i : ℕ) (s : Summary) (t : State) → grants ≤ i → Sofar grants u i s t → Leads m number u (replicate grants (Grant nodes)) s t
-  sofar-all grants u i s t past a rest =
-      let none : grants - i ≡ 0 = omega arith in
-      sym (ap (λ k. heard m number s t (replicate k (Grant nodes) ++ rest)) none) ∙ a.whole rest
 
   -- after the grants, the held set and the ceiling
   pub asked-all : (grants room : ℕ) (s : Summary) (t : State) → Leads m number (start m) (replicate grants (Grant nodes)) s t → noted (noted s (written t.held (replicate room 0))) (Ceiling (ceiling t)) ≡ summary nothing (answers m number (asked grants nodes room))

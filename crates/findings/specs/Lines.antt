@@ -14,4 +14,4 @@ yes_or_no false = codes "no"
 
 -- The set that a search found, its points and the ceiling, and how far it came, a line for each.
 abbrev pub found_lines : Found → List ℕ
-found_lines f = codes "search" ++ (listed (members f.set) ++ (codes "\nsearch points " ++ (decimal f.points ++ (codes " ceiling " ++ (decimal f.ceiling ++ (codes "\nfinished " ++ (yes_or_no f.finished ++ (codes " nodes " ++ decimal f.nodes))))))))
+found_lines f = codes "search" ++ (listed (members f.pairing.set) ++ (codes "\nsearch points " ++ (decimal f.pairing.points ++ (codes " ceiling " ++ (decimal f.ceiling ++ (codes "\nfinished " ++ (yes_or_no f.finished ++ (codes " nodes " ++ decimal f.nodes))))))))

@@ -16,7 +16,7 @@ pub record Searched (m : Meaning) (number : Number) (grants : ℕ) (found : Foun
   pub answered : summary_of found ≡ summary nothing (answers m number (asked grants 1000000 256))
   pub nodes : found.nodes ≡ all_nodes (answers m number (asked grants 1000000 256))
   pub finished : found.finished ≡ says_finished (answers m number (asked grants 1000000 256))
-  pub clique : Clique m (members found.set)
-  pub weighs : weight m (members found.set) ≡ found.points
-  pub first : found.finished ≡ true → FirstHeaviest m (members found.set) found.points
+  pub clique : Clique m (members found.pairing.set)
+  pub weighs : weight m (members found.pairing.set) ≡ found.pairing.points
+  pub first : found.finished ≡ true → FirstHeaviest m (members found.pairing.set) found.pairing.points
   pub covers : (K : List ℕ) → Clique m K → weight m K ≤ found.ceiling

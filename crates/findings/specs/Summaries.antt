@@ -1,12 +1,13 @@
 -- What is asked of a search, and how the answers are summed up.
-use Rattle.std.specs.Prelude.{◌≡◌, ℕ, ◌+◌, Bool, false, cond, ◌||◌, List, [], ◌∷◌, ◌++◌, take, replicate, nat_lt}
+use Rattle.std.specs.Prelude.{◌≡◌, ℕ, ◌+◌, Bool, false, cond, ◌||◌, List, [], ◌∷◌, ◌++◌, take, replicate, Some, None, Option, fold, nat_lt}
 use Rattle.candidates.specs.Members.{members}
 use Rattle.candidates.specs.Sets.{inserted}
 use Rattle.findings.specs.declared.found.Found.{Found}
 use Rattle.rules.specs.Bounds.{Number}
 use Rattle.runs.specs.Calls.{Call, Grant, AskHeld, AskCeiling, Answer, Granted, Taken, Holding, Ceiling, Refused, answers_from}
-use Rattle.runs.specs.State.{State}
+use Rattle.runs.specs.State.{Held, State}
 use Rattle.sheets.specs.Meaning.{Meaning}
+use Rattle.sheets.specs.declared.pairing.Pairing.{Pairing}
 
 -- Grants of some nodes each, then the held set, in a buffer with some room, then the ceiling.
 unfoldable pub asked : ℕ → ℕ → ℕ → List Call
@@ -21,7 +22,7 @@ pub record Summary : Type 0 where
   pub nodes : ℕ
 
 abbrev pub summary_of : Found → Summary
-summary_of f = record { set = members f.set; points = f.points; ceiling = f.ceiling; finished = f.finished; nodes = f.nodes }
+summary_of f = record { set = members f.pairing.set; points = f.pairing.points; ceiling = f.ceiling; finished = f.finished; nodes = f.nodes }
 
 -- before any answer
 abbrev pub nothing : Summary
@@ -29,8 +30,7 @@ nothing = record { set = []; points = 0; ceiling = 0; finished = false; nodes = 
 
 -- a list made a set of candidates, entry by entry
 abbrev pub collected : List ℕ → List ℕ → List ℕ
-collected xs [] = xs
-collected xs (v ∷ vs) = collected (cond (nat_lt v 256) (inserted v xs) xs) vs
+collected xs vs = fold (λ ys v. cond (nat_lt v 256) (inserted v ys) ys) xs vs
 
 -- after one more answer
 abbrev pub noted : Summary → Answer → Summary
@@ -39,6 +39,18 @@ noted s (Taken taken) = s
 noted s (Holding count weight buffer) = record { set = collected [] (take count buffer); points = weight; ceiling = s.ceiling; finished = s.finished; nodes = s.nodes }
 noted s (Ceiling ceiling) = record { set = s.set; points = s.points; ceiling = ceiling; finished = s.finished; nodes = s.nodes }
 noted s (Refused refusal) = s
+
+-- a pairing as a held set and its weight
+abbrev pub holding : Pairing → Held
+holding p = record { set = members p.set; weight = p.points }
+
+-- what an answer says is held
+abbrev pub told : Answer → Option Held
+told (Holding count weight buffer) = Some (record { set = collected [] (take count buffer); weight = weight })
+told (Granted nodes finished) = None
+told (Taken taken) = None
+told (Ceiling ceiling) = None
+told (Refused refusal) = None
 
 -- after all answers
 abbrev pub summary : Summary → List Answer → Summary

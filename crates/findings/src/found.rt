@@ -1,9 +1,9 @@
 // What a search finds in a number of grants.
-ghost use Rattle.std.specs.Prelude.{◌≡◌, ◌+◌, ◌^◌, ◌<◌, ◌≤◌, [], take, replicate, Some};
+ghost use Rattle.std.specs.Prelude.{◌≡◌, ◌+◌, ◌^◌, ◌<◌, ◌≤◌, [], take, replicate, Some, option_map};
 ghost use Rattle.candidates.specs.Members.{members};
 ghost use Rattle.findings.specs.Lines.{found_lines, yes_or_no};
 ghost use Rattle.findings.specs.Searched.{Searched};
-ghost use Rattle.findings.specs.Summaries.{Leads, collected, noted, nothing, summary_of};
+ghost use Rattle.findings.specs.Summaries.{Leads, collected, holding, noted, nothing, summary_of, told};
 ghost use Rattle.runs.specs.Calls.{Grant, reply, written};
 ghost use Rattle.runs.specs.Promise.{Promise};
 ghost use Rattle.search.specs.Searching.{state_of};
@@ -12,35 +12,37 @@ use crate::listed::Listed;
 use candidates::set::CandidateSet;
 use rules::rule::Rule;
 use search::search::Search;
-use sheets::sheet::{Points, Sheet};
+use sheets::pairing::Pairing;
+use sheets::sheet::Sheet;
 use std::fmt;
 
-// The held set and its points, the ceiling, whether the search is finished, and the nodes that it took.
+// What is held, the ceiling, whether the search is finished, and the nodes that it took.
 #[derive(Clone, Copy)]
 pub struct Found {
-    pub set: CandidateSet,
-    pub points: Points,
+    pub pairing: Pairing,
     pub ceiling: u64,
     pub finished: bool,
     pub nodes: u64,
 }
 
-// A list as a set.
-fn set_of(list: &[usize]) -> CandidateSet
-    ensures { members result ≡ collected [] list.now }
+// What a search holds, written into a buffer with room for any set.
+pub fn held_by<S: Sheet, R: Rule>(search: &Search<S, R>) -> Option<Pairing>
+    ensures { option_map holding result ≡ told (written (state_of search.now).held (replicate 256 0)) }
 {
-    let mut set = CandidateSet::empty();
-    for v in list {
-        set = set.with(*v);
-    }
-    set
+    let mut buffer = [0; 256];
+    let (count, points) = search.held(&mut buffer).ok()?;
+    let set = front_of(&buffer, count);
+    Some(Pairing { set, points })
 }
 
 // The front of a buffer as a set.
 fn front_of(buffer: &[usize], count: usize) -> CandidateSet
     ensures { members result ≡ collected [] (take count buffer.now) }
 {
-    set_of(&buffer[..count.min(buffer.len())])
+    buffer
+        .iter()
+        .take(count)
+        .fold(CandidateSet::empty(), |set, v| set.with(*v))
 }
 
 impl Found {
@@ -49,8 +51,10 @@ impl Found {
         ensures { summary_of result ≡ nothing }
     {
         Found {
-            set: CandidateSet::empty(),
-            points: 0,
+            pairing: Pairing {
+                set: CandidateSet::empty(),
+                points: 0,
+            },
             ceiling: 0,
             finished: false,
             nodes: 0,
@@ -88,20 +92,6 @@ impl Found {
         }
         found
     }
-
-    // With what the search holds, which is written into a buffer.
-    fn holding<S: Sheet, R: Rule>(self, search: &Search<S, R>, buffer: &mut [usize]) -> Found
-        ensures { summary_of result ≡ noted (summary_of self) (written (state_of search.now).held buffer.old) }
-    {
-        match search.held(buffer) {
-            Ok((count, points)) => Found {
-                set: front_of(buffer, count),
-                points,
-                ..self
-            },
-            Err(_) => self,
-        }
-    }
 }
 
 // What a new search finds, which is granted 1,000,000 nodes until it is finished, so many times at most.
@@ -111,9 +101,8 @@ pub fn search_for<S: Sheet + Drop, R: Rule + Drop>(sheet: S, rule: R, grants: u3
 {
     let mut search = Search::new(sheet, rule);
     let found = Found::after_grants(&mut search, grants, 1_000_000);
-    let mut buffer = [0; 256];
-    let found = found.holding(&search, &mut buffer);
     Found {
+        pairing: held_by(&search).unwrap_or(found.pairing),
         ceiling: search.ceiling(),
         ..found
     }
@@ -129,8 +118,8 @@ impl fmt::Display for Found {
     ghost output = { λ found. Some (found_lines found) };
 
     fn fmt<W: fmt::Write>(&self, f: &mut fmt::Formatter<W>) -> fmt::Result {
-        let set = Listed(self.set);
-        let points = self.points;
+        let set = Listed(self.pairing.set);
+        let points = self.pairing.points;
         let ceiling = self.ceiling;
         let finished = yes_or_no(self.finished);
         let nodes = self.nodes;

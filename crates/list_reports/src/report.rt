@@ -35,8 +35,8 @@ impl fmt::Display for Report {
 
     fn fmt<W: fmt::Write>(&self, f: &mut fmt::Formatter<W>) -> fmt::Result {
         let candidates = self.candidates;
-        let set = Listed(self.found.set);
-        let points = self.found.points;
+        let set = Listed(self.found.pairing.set);
+        let points = self.found.pairing.points;
         let ceiling = self.found.ceiling;
         let finished = yes_or_no(self.found.finished);
         let nodes = self.found.nodes;

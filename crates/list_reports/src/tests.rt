@@ -3,19 +3,18 @@ use crate::pairing::pair;
 use std::alloc::{AllocError, Global};
 use std::test::Fail;
 
-// The list of the sheet with n = 4 and the table 5, 7, 65535, 1, 9, 4.
+// The list of the sheet with n = 4 and the table 5, 7, 65535, 1, 9, 4: the header, and a row for each two that fit.
 fn sheet_a() -> [u8; 512] {
-    let header = [0u8, 0, 5, 3];
-    let records = [[0u8, 1, 5], [0, 2, 7], [0, 3, 1], [1, 3, 9], [2, 3, 4]];
+    let rows = [
+        [0, 0, 5, 3],
+        [0, 1, 5, 0],
+        [0, 2, 7, 0],
+        [0, 3, 1, 0],
+        [1, 3, 9, 0],
+        [2, 3, 4, 0],
+    ];
     let mut block = [0; 512];
-    for i in 0..4 {
-        block[i] = header[i];
-    }
-    for i in 0..5 {
-        for k in 0..3 {
-            block[4 + 4 * i + k] = records[i][k];
-        }
-    }
+    block[..24].copy_from_slice(rows.as_flattened());
     block[508] = 152;
     block[509] = 2;
     block

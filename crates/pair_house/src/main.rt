@@ -32,7 +32,7 @@ const CANDIDATES: [Candidate; 4] = [
 fn main(rt: HostRuntime) -> io::Result<()> {
     match EvidenceSheet::new(&METERS, &FLATS, &CANDIDATES) {
         Ok(sheet) => {
-            let report = Report::of(rt.alloc(), sheet)?;
+            let report = Report::of(sheet);
             println!(rt; "{report}")
         }
         Err(fault) => {

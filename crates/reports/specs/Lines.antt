@@ -1,7 +1,7 @@
 -- What is printed of a report and of a refusal.
-use Rattle.std.specs.Prelude.{ℕ, Bool, true, false, List, [], ◌∷◌, ◌++◌, codes, decimal}
+use Rattle.std.specs.Prelude.{ℕ, List, ◌++◌, codes, decimal}
 use Rattle.candidates.specs.Members.{members}
-use Rattle.reports.specs.declared.found.Found.{Found}
+use Rattle.findings.specs.Lines.{found_lines, listed}
 use Rattle.reports.specs.declared.refusal.Refusal.{Refusal}
 use Rattle.reports.specs.declared.refusal.Refusal.TheVariants.{Text, Table}
 use Rattle.reports.specs.declared.report.Report.{Report}
@@ -20,19 +20,6 @@ reason_of Entries = codes "n candidates have n(n - 1)/2 entries"
 abbrev pub refusal_line : Refusal → List ℕ
 refusal_line (Text fault) = line fault
 refusal_line (Table fault) = codes "refused " ++ (decimal (table_number fault) ++ (codes ": " ++ reason_of fault))
-
--- Each number after a blank.
-abbrev pub listed : List ℕ → List ℕ
-listed [] = []
-listed (v ∷ vs) = (codes " " ++ decimal v) ++ listed vs
-
-abbrev pub yes_or_no : Bool → List ℕ
-yes_or_no true = codes "yes"
-yes_or_no false = codes "no"
-
--- The set that a search found, its points and the ceiling, and how far it came, a line for each.
-abbrev pub found_lines : Found → List ℕ
-found_lines f = codes "search" ++ (listed (members f.set) ++ (codes "\nsearch points " ++ (decimal f.points ++ (codes " ceiling " ++ (decimal f.ceiling ++ (codes "\nfinished " ++ (yes_or_no f.finished ++ (codes " nodes " ++ decimal f.nodes))))))))
 
 -- The candidates, the set and its points, a line for each, the numbers of the rules on one, and what a search found.
 abbrev pub report_lines : Report → List ℕ

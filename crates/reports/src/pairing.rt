@@ -13,6 +13,5 @@ pub fn paired(heap: Global, text: &[u8]) -> Result<Report, Refusal>
 {
     let table = read_table(heap, text)?;
     let sheet = TableSheet::new(table.size, table.entries.as_slice())?;
-    let report = Report::of(heap, sheet)?;
-    Ok(report)
+    Ok(Report::of(sheet))
 }

@@ -32,7 +32,7 @@ impl From<TableFault> for Refusal {
     }
 }
 
-// There is no memory for the search.
+// A caller that allocates beside the report has no memory.
 impl From<AllocError> for Refusal {
     ghost from_gives = { λ _ r. r ≡ Text Memory };
 

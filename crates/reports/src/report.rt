@@ -1,19 +1,18 @@
 // What is reported of a sheet: how many candidates it has, the pairing, the numbers of the bounding rules, and what a
 // search finds.
-ghost use Rattle.std.specs.Prelude.{IfOk, Some};
+ghost use Rattle.std.specs.Prelude.{Some};
 ghost use Rattle.reports.specs.Lines.{report_lines};
 ghost use Rattle.reports.specs.Reports.{Reports};
 
-use crate::found::{Found, search_for};
-use crate::listed::Listed;
 use exhaustive::pairing::best_pairing;
+use findings::found::{Found, search_for};
+use findings::listed::Listed;
 use rules::colour::Colour;
 use rules::lesser::Lesser;
 use rules::numbers::Numbers;
 use rules::path::Path;
 use sheets::pairing::Pairing;
 use sheets::sheet::Sheet;
-use std::alloc::{AllocError, Global};
 use std::fmt;
 
 #[derive(Clone, Copy)]
@@ -26,19 +25,19 @@ pub struct Report {
 
 impl Report {
     // The report on any sheet, with a search by the lesser of colour and path.
-    pub fn of<S: Sheet + Drop>(heap: Global, sheet: S) -> Result<Report, AllocError>
-        ensures { IfOk result (Reports (S.Sheet.meaning sheet)) }
+    pub fn of<S: Sheet + Drop>(sheet: S) -> Report
+        ensures { Reports (S.Sheet.meaning sheet) result }
     {
         let candidates = sheet.size();
         let pairing = best_pairing(&sheet);
         let numbers = Numbers::of(&sheet);
-        let found = search_for(heap, sheet, Lesser(Colour, Path), 50)?;
-        Ok(Report {
+        let found = search_for(sheet, Lesser(Colour, Path), 50);
+        Report {
             candidates,
             pairing,
             numbers,
             found,
-        })
+        }
     }
 }
 

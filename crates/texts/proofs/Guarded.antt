@@ -51,5 +51,5 @@ guards-tabled bs place (Err e) h = h
 -- what holds of what is said holds of what is answered
 pub guards-answers : (text : List ℕ) (said : Result (List ℕ) TextFault) (r : Result Table TextFault) → Guards text 0 said → Answers said numbers r → Guards text 0 r
 guards-answers text said (Ok t) h is = subst (Guards text 0) is h
-guards-answers text said (Err e) h (inl memory) = subst (Marks text 0) (sym memory) tt
+guards-answers text said (Err e) h (inl (memory, _)) = subst (Marks text 0) (sym memory) tt
 guards-answers text said (Err e) h (inr is) = subst (Guards text 0) is h

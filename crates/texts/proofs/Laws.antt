@@ -13,7 +13,3 @@ faithful-answers text r answers =
       written = λ xs writes. subst (λ said. Answers (tabled said) numbers r) (scanned-writes writes 0) answers;
       guarded = guards-answers text (read text) r (guards-tabled text 0 (scanned text 0 None) (guards-scanned text 0 None)) answers;
     }
-
--- both clauses of `read_table`, from the first
-pub promised : (text : List ℕ) (r : Result Table TextFault) → Answers (read text) numbers r → record { value : Answers (read text) numbers r; faithful : Faithful text r }
-promised text r answers = record { value = answers; faithful = faithful-answers text r answers }

@@ -1,11 +1,15 @@
 -- Numbers that are written, in whatever layout, are read back.
-use Rattle.std.proofs.Common.{◌≡◌, ℕ, ◌+◌, ◌/◌, ◌%◌, ◌<◌, ◌≤◌, true, false, leb, List, [], ◌∷◌, ◌++◌, length, Some, None, Ok, decimal, Option, refl, ap, ◌∙◌, append_assoc, arith}
+use Rattle.std.proofs.Common.{◌≡◌, ℕ, ◌+◌, ◌/◌, ◌%◌, ◌<◌, ◌≤◌, true, false, leb, List, [], ◌∷◌, ◌++◌, length, Some, None, Ok, Err, decimal, Option, Result, refl, ap, ◌∙◌, append_assoc, arith}
 use Rattle.std.proofs.lemmas.Fmt.{decimal_by_steps}
 use Rattle.std.proofs.lemmas.List.{length-append}
 use Rattle.std.proofs.lemmas.Bool.Decides.{nat_tests}
+use Rattle.texts.specs.declared.faults.TextFault.{TextFault}
 use Rattle.texts.specs.Reading.{is_digit, is_white, grown, behind, scanned}
 use Rattle.texts.specs.Faithful.{Ends, Writes, nothing, space, number}
-use Rattle.texts.proofs.Scans.{behind-none}
+
+behind-none : (r : Result (List ℕ) TextFault) → behind [] r ≡ r
+behind-none (Ok ys) = refl
+behind-none (Err e) = refl
 
 -- a digit goes on with the number begun
 scanned-digit : (begun : Option ℕ) (d n place : ℕ) (bs : List ℕ) → d < 10 → grown begun (48 + d) ≡ n → n ≤ 65535 → scanned ((48 + d) ∷ bs) place begun ≡ scanned bs (place + 1) (Some n)

@@ -1,5 +1,5 @@
 -- What a text says: the numbers of a table, or the first thing that is wrong.
-use Rattle.std.specs.Prelude.{◌≡◌, ℕ, ◌+◌, ◌-◌, ◌*◌, Bool, cond, ◌&&◌, ◌||◌, ◌⊎◌, List, [], ◌∷◌, ◌++◌, Some, None, Ok, Err, vec_items, Option, Result, ◌==◌, nat_le}
+use Rattle.std.specs.Prelude.{◌≡◌, ℕ, ◌+◌, ◌-◌, ◌*◌, Bool, true, false, cond, ◌&&◌, ◌||◌, ◌⊎◌, List, [], ◌∷◌, ◌++◌, Some, None, Ok, Err, vec_items, Option, Result, ◌==◌, nat_le}
 use Rattle.std.specs.Option.{unwrap_or, option_to_list}
 use Rattle.texts.specs.declared.faults.TextFault.{TextFault}
 use Rattle.texts.specs.declared.faults.TextFault.TheVariants.{Byte, Large, Nothing, Memory}
@@ -45,7 +45,16 @@ tabled (Err e) = Err e
 abbrev pub read : List ℕ → Result (List ℕ) TextFault
 read text = tabled (scanned text 0 None)
 
--- A call answers what is said, unless memory runs out.
+-- Whether what is said is that there is no number.
+abbrev pub says_none : Result (List ℕ) TextFault → Bool
+says_none (Ok []) = true
+says_none (Ok (x ∷ xs)) = false
+says_none (Err (Byte _)) = false
+says_none (Err (Large _)) = false
+says_none (Err Nothing) = true
+says_none (Err Memory) = false
+
+-- A call answers what is said, unless memory runs out; for a text with no number it never does.
 abbrev pub Answers : {X : Type 0} → Result (List ℕ) TextFault → (X → List ℕ) → Result X TextFault → Type 0
 Answers said list (Ok x) = said ≡ Ok (list x)
-Answers said list (Err e) = (e ≡ Memory) ⊎ (said ≡ Err e)
+Answers said list (Err e) = ((e ≡ Memory) × (says_none said ≡ false)) ⊎ (said ≡ Err e)

@@ -1,6 +1,6 @@
 // The numbers of a text, read byte by byte.
-ghost use Rattle.std.specs.Prelude.{◌≡◌, ◌≤◌, ◌++◌, if◌then◌else◌, None, Ok, Err, vec_items, nat_le};
-ghost use Rattle.std.specs.Option.{option_to_list};
+ghost use Rattle.std.specs.Prelude.{◌≡◌, ◌≤◌, ◌++◌, true, if◌then◌else◌, None, Ok, Err, vec_items, nat_le};
+ghost use Rattle.std.specs.Option.{is_some, option_to_list};
 ghost use Rattle.texts.specs.declared.faults.TextFault.TheVariants.{Large, Memory};
 ghost use Rattle.texts.specs.Reading.{grown, scanned, Answers};
 ghost use Rattle.texts.specs.Steps.{Steps};
@@ -42,7 +42,7 @@ fn step(
 
 // Adds the number that has begun, if one has.
 fn close(numbers: &mut Vec<u16>, begun: Option<u16>) -> Result<(), TextFault>
-    ensures { elim result [ Ok u ↦ numbers.new.items ≡ numbers.old.items ++ option_to_list begun | Err e ↦ e ≡ Memory ] }
+    ensures { elim result [ Ok u ↦ numbers.new.items ≡ numbers.old.items ++ option_to_list begun | Err e ↦ (e ≡ Memory) × (is_some begun ≡ true) ] }
 {
     if let Some(number) = begun {
         numbers.push(number)?;
@@ -56,8 +56,5 @@ fn extend(begun: Option<u16>, place: usize, digit: u8) -> Result<u16, TextFault>
     ensures { result ≡ (if nat_le (grown begun digit) 65535 then Ok (grown begun digit) else Err (Large place)) }
 {
     let number = u32::from(begun.unwrap_or(0)) * 10 + u32::from(digit - b'0');
-    if number > 65535 {
-        return Err(TextFault::Large { place });
-    }
-    Ok(number as u16)
+    u16::try_from(number).map_err(|_| TextFault::Large { place })
 }

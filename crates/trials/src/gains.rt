@@ -5,14 +5,10 @@ use sheets::sheet::Sheet;
 // The gain of a set over c: the points of each member with c and, once, with each lower member.
 fn gain<S: Sheet>(sheet: &S, c: CandidateSet, set: CandidateSet) -> u64 {
     let mut sum: u64 = 0;
-    for v in 0..256 {
-        for u in 0..256 {
-            if set.contains(v) && c.contains(u) {
-                sum = sum.wrapping_add(sheet.points(u, v));
-            }
-            if u < v && set.contains(v) && set.contains(u) {
-                sum = sum.wrapping_add(sheet.points(u, v));
-            }
+    for v in set.iter() {
+        let lower = set.meet(CandidateSet::first(v));
+        for u in c.iter().chain(lower.iter()) {
+            sum = sum.wrapping_add(sheet.points(u, v));
         }
     }
     sum

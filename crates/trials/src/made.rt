@@ -3,18 +3,15 @@ use crate::random::Random;
 use candidates::set::CandidateSet;
 use std::alloc::{AllocError, Global};
 
-// A made entry: apart in this many of a hundred cases, else 0, 0 to 2, below 100, or any points.
-fn made_entry(random: &mut Random, apart: usize, height: usize) -> u16 {
+// A made entry: apart in this many of a hundred cases, else points below the limit, or 0 where none is set.
+fn made_entry(random: &mut Random, apart: usize, limit: Option<u16>) -> u16 {
     if random.below(100) < apart {
         return 65535;
     }
-    let points = match height {
-        0 => 0,
-        1 => random.below(3),
-        2 => random.below(100),
-        _ => random.below(65535),
-    };
-    (points & 0xffff) as u16
+    match limit {
+        Some(limit) => random.below(usize::from(limit)) as u16,
+        None => 0,
+    }
 }
 
 pub(crate) fn made_entries(
@@ -28,11 +25,16 @@ pub(crate) fn made_entries(
         1 => 100,
         _ => random.below(100),
     };
-    let height = random.below(4);
+    let limit = match random.below(4) {
+        0 => None,
+        1 => Some(3),
+        2 => Some(100),
+        _ => Some(65535),
+    };
     let mut entries = Vec::new(heap);
     for v in 0..n {
         for _ in 0..v {
-            entries.push(made_entry(random, apart, height))?;
+            entries.push(made_entry(random, apart, limit))?;
         }
     }
     Ok(entries)
@@ -40,11 +42,7 @@ pub(crate) fn made_entries(
 
 // A made set: each of the first 16 numbers by chance, so that some are no candidates.
 pub(crate) fn made_set(random: &mut Random) -> CandidateSet {
-    let mut set = CandidateSet::empty();
-    for v in 0..16 {
-        if random.below(2) == 1 {
-            set = set.with(v);
-        }
-    }
-    set
+    (0..16)
+        .filter(|_| random.below(2) == 1)
+        .fold(CandidateSet::empty(), |set, v| set.with(v))
 }

@@ -1,6 +1,7 @@
 // Tries the rules and the search on many made sheets against every clique, and prints how often each promise held.
 #![tactic(auto)]
 
+mod counts;
 mod gains;
 mod made;
 mod random;

@@ -20,6 +20,6 @@ impl Random {
         ensures { result ≤ n - 1 }
     {
         let x = (self.next() >> 32) as usize;
-        if n == 0 { 0 } else { x % n }
+        x.checked_rem(n).unwrap_or(0)
     }
 }

@@ -1,4 +1,5 @@
 // Each rule's number against the greatest gain of all cliques, on made sheets and sets.
+use crate::counts::Count;
 use crate::gains::greatest_gain;
 use crate::made::{made_entries, made_set};
 use crate::random::Random;
@@ -14,12 +15,12 @@ use std::alloc::{AllocError, Global};
 use std::fmt;
 
 // How many cases were tried, and how many of them broke a promise.
-#[derive(Clone, Copy)]
+#[derive(Clone, Copy, Default)]
 pub(crate) struct Tally {
-    cases: u32,
-    too_low: u32,
-    above_flat: u32,
-    lesser_wrong: u32,
+    cases: Count,
+    too_low: Count,
+    above_flat: Count,
+    lesser_wrong: Count,
 }
 
 impl Tally {
@@ -34,26 +35,19 @@ impl Tally {
         let colour: u64 = Colour.number(sheet, c, s);
         let path = Path.number(sheet, c, s);
         let lesser = Lesser(Colour, Path).number(sheet, c, s);
-        self.cases = self.cases.wrapping_add(1);
-        if flat < least || colour < least || path < least || lesser < least {
-            self.too_low = self.too_low.wrapping_add(1);
-        }
-        if colour > flat || path > flat {
-            self.above_flat = self.above_flat.wrapping_add(1);
-        }
-        if lesser != colour.min(path) {
-            self.lesser_wrong = self.lesser_wrong.wrapping_add(1);
-        }
+        self.cases.note(true);
+        self.too_low.note(
+            [flat, colour, path, lesser]
+                .iter()
+                .any(|number| *number < least),
+        );
+        self.above_flat.note(colour > flat || path > flat);
+        self.lesser_wrong.note(lesser != colour.min(path));
     }
 
     pub(crate) fn run(heap: Global) -> Result<Tally, AllocError> {
         let mut random = Random(88172645463325252);
-        let mut tally = Tally {
-            cases: 0,
-            too_low: 0,
-            above_flat: 0,
-            lesser_wrong: 0,
-        };
+        let mut tally = Tally::default();
         for _ in 0..4000 {
             let n = 1 + random.below(10);
             let entries = made_entries(heap, &mut random, n)?;

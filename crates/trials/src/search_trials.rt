@@ -1,42 +1,36 @@
 // The search under each rule and made lists of calls, against the exhaustive pairing.
+use crate::counts::Count;
 use crate::made::{made_entries, made_set};
 use crate::random::Random;
-use candidates::set::CandidateSet;
 use exhaustive::pairing::best_pairing;
+use findings::found::held_by;
 use rules::colour::Colour;
 use rules::flat::Flat;
 use rules::lesser::Lesser;
 use rules::path::Path;
 use rules::rule::Rule;
 use search::search::Search;
-use sheets::pairing::Pairing;
-use sheets::sheet::Sheet;
+use sheets::sheet::{Points, Sheet};
 use sheets::table::TableSheet;
 use std::alloc::{AllocError, Global};
 use std::fmt;
 
 // How many searches were run to their end, and how often something was not as promised.
-#[derive(Clone, Copy)]
+#[derive(Clone, Copy, Default)]
 pub(crate) struct Searches {
-    runs: u32,
-    unfinished: u32,
-    nodes_off: u32,
-    ceiling_low: u32,
-    set_wrong: u32,
+    runs: Count,
+    unfinished: Count,
+    nodes_off: Count,
+    ceiling_low: Count,
+    set_wrong: Count,
 }
 
 // What a run has been answered so far.
-#[derive(Clone, Copy)]
+#[derive(Clone, Copy, Default)]
 struct Run {
     nodes: u64,
     finished: bool,
     best_taken: bool,
-}
-
-fn note(count: &mut u32, wrong: bool) {
-    if wrong {
-        *count = count.wrapping_add(1);
-    }
 }
 
 // Offers the members of a made set, which is mostly no clique; answers whether it was taken.
@@ -45,23 +39,9 @@ fn offer_made<S: Sheet, R: Rule>(
     random: &mut Random,
     search: &mut Search<S, R>,
 ) -> Result<bool, AllocError> {
-    let mut list = Vec::new(heap);
     let set = made_set(random).meet(made_set(random));
-    for v in set.iter() {
-        list.push(v)?;
-    }
+    let list: Vec<usize> = set.iter().collect(heap)?;
     Ok(search.offer(list.as_slice()).unwrap_or(false))
-}
-
-// The held set and its weight, where one is held.
-fn held_set<S: Sheet, R: Rule>(search: &Search<S, R>) -> Option<Pairing> {
-    let mut buffer = [0; 256];
-    let (count, points) = search.held(&mut buffer).ok()?;
-    let mut set = CandidateSet::empty();
-    for v in buffer.iter().take(count) {
-        set = set.with(*v);
-    }
-    Some(Pairing { set, points })
 }
 
 impl Run {
@@ -74,29 +54,26 @@ impl Run {
 
     // Some made calls first, then grants until it is finished.
     fn to_the_end<S: Sheet, R: Rule>(
-        &mut self,
         heap: Global,
         random: &mut Random,
         search: &mut Search<S, R>,
-        best: u64,
-    ) -> Result<(), AllocError> {
+        best: Points,
+    ) -> Result<Run, AllocError> {
+        let mut run = Run::default();
         for _ in 0..random.below(8) {
             if random.below(2) == 0 {
-                self.grant(search, random.below(20) as u64);
+                run.grant(search, random.below(20) as u64);
             } else if offer_made(heap, random, search)? {
-                let heaviest = match held_set(search) {
-                    Some(held) => held.points == best,
-                    None => false,
-                };
-                self.best_taken = self.best_taken || heaviest;
+                run.best_taken |= held_by(search).is_some_and(|held| held.points == best);
             }
         }
         for _ in 0..1000 {
-            if !self.finished {
-                self.grant(search, 1000);
+            if run.finished {
+                break;
             }
+            run.grant(search, 1000);
         }
-        Ok(())
+        Ok(run)
     }
 }
 
@@ -110,35 +87,22 @@ impl Searches {
     ) -> Result<(), AllocError> {
         let best = best_pairing(&sheet);
         let mut search = Search::new(sheet, rule);
-        note(&mut self.ceiling_low, search.ceiling() < best.points);
-        let mut run = Run {
-            nodes: 0,
-            finished: false,
-            best_taken: false,
-        };
-        run.to_the_end(heap, random, &mut search, best.points)?;
-        note(&mut self.runs, true);
-        note(&mut self.unfinished, !run.finished);
-        note(&mut self.ceiling_low, search.ceiling() < best.points);
-        note(&mut self.nodes_off, run.nodes >> sheet.size().min(60) > 1);
-        let right = match held_set(&search) {
-            Some(held) => held.points == best.points && (run.best_taken || held.set == best.set),
-            None => false,
-        };
-        note(&mut self.set_wrong, !right);
-        let _ = search.close();
+        self.ceiling_low.note(search.ceiling() < best.points);
+        let run = Run::to_the_end(heap, random, &mut search, best.points)?;
+        self.runs.note(true);
+        self.unfinished.note(!run.finished);
+        self.ceiling_low.note(search.ceiling() < best.points);
+        self.nodes_off.note(run.nodes >> sheet.size().min(60) > 1);
+        let right = held_by(&search).is_some_and(|held| {
+            held.points == best.points && (run.best_taken || held.set == best.set)
+        });
+        self.set_wrong.note(!right);
         Ok(())
     }
 
     pub(crate) fn run(heap: Global) -> Result<Searches, AllocError> {
         let mut random = Random(6364136223846793005);
-        let mut all = Searches {
-            runs: 0,
-            unfinished: 0,
-            nodes_off: 0,
-            ceiling_low: 0,
-            set_wrong: 0,
-        };
+        let mut all = Searches::default();
         for _ in 0..1500 {
             let n = if random.below(100) == 0 {
                 13 + random.below(6)

@@ -6,6 +6,7 @@ use Rattle.search.specs.Searching.{state_of}
 use Rattle.findings.specs.Summaries.{Leads, noted, summary_of}
 use Rattle.findings.proofs.Granting.{asked-all}
 use Rattle.findings.proofs.Searches.{searched}
+use Rattle.findings.proofs.Summing.{held-noted}
 use Rattle.findings.proofs.found.search_for.Goals as goal
 
 pub returns : goal.returns
@@ -24,6 +25,6 @@ returns g c =
     (subst (λ rule. Leads m (g.R.Rule.value rule) (state_of new) calls s t) owned.1
     (subst (λ sheet. Leads (g.S.Sheet.meaning sheet) (g.R.Rule.value new.rule) (state_of new) calls s t) owned.0 c.after_grants-found.ensures)) in
     record {
-      found = searched m law number promise c.args.grants _ ((λ i. noted (c.holding-found.ensures i) (Ceiling (c.ceiling.ensures i))) ∙ asked-all m number 1000000 c.args.grants 256 s t leads);
+      found = searched m law number promise c.args.grants _ ((λ i. noted (held-noted c.after_grants-found.result t.held (replicate 256 0) c.held_by.result c.unwrap_or.result c.held_by.ensures c.unwrap_or.ensures i) (Ceiling (c.ceiling.ensures i))) ∙ asked-all m number 1000000 c.args.grants 256 s t leads);
       promise = promise;
     }

@@ -1,15 +1,8 @@
-use Rattle.std.proofs.Common.{Ok, sym, ap, ◌∙◌}
 use Rattle.std.proofs.lemmas.Result.{err_from_is_err_and}
-use Rattle.texts.proofs.Scans.{sofar-more, sofar-stops, sofar-all}
+use Rattle.texts.proofs.Scans.{sofar-stops}
 use Rattle.texts.proofs.numbers.read_numbers.Goals as goal
-
-pub loop-place-preserved : goal.loop-place-preserved
-loop-place-preserved c = sofar-more _ _ _ _ c.loop-place.invariant _ _ c.loop-place-test.true c.in_ok-begun.ensures
 
 pub returns-in_err-begun : goal.returns-in_err-begun
 returns-in_err-begun c =
     let p = err_from_is_err_and c.from_residual.result c.from_residual.ensures.1 in
     rw (p.1, p.2) (sofar-stops _ _ _ _ c.loop-place.invariant _ c.loop-place-test.true c.in_err-begun.ensures)
-
-pub returns : goal.returns
-returns c = sofar-all _ _ _ _ c.loop-place.invariant c.loop-place-test.false ∙ ap Ok (sym c.in_ok-close.ensures)

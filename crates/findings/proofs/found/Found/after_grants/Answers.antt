@@ -1,14 +1,9 @@
-use Rattle.std.proofs.Common.{refl, ◌∙◌}
+use Rattle.std.proofs.Common.{◌∙◌}
 use Rattle.runs.specs.Calls.{Grant, reply}
 use Rattle.search.specs.Searching.{state_of}
 use Rattle.findings.specs.Summaries.{noted, summary_of}
-use Rattle.findings.proofs.Granting.{sofar-none, sofar-more, sofar-finished, sofar-all}
+use Rattle.findings.proofs.Granting.{sofar-more, sofar-finished}
 use Rattle.findings.proofs.found.Found.after_grants.Goals as goal
-
-pub loop-init : goal.loop-init
-loop-init g c =
-    let search = c.args.search.now in
-    (sofar-none (g.S.Sheet.meaning search.sheet) (g.R.Rule.value search.rule) c.args.nodes c.args.grants (state_of search) (summary_of c.nothing-found.result) c.nothing-found.ensures, refl, refl)
 
 pub loop-preserved : goal.loop-preserved
 loop-preserved g c =
@@ -31,8 +26,3 @@ pub returns-then-found : goal.returns-then-found
 returns-then-found g c =
     let search = c.args.search.now in
     sofar-finished (g.S.Sheet.meaning search.sheet) (g.R.Rule.value search.rule) c.args.nodes c.args.grants (state_of search) c.loop.counter (summary_of c.loop.found) (state_of c.loop.search) c.if-found.true c.loop.invariant.0
-
-pub returns : goal.returns
-returns g c =
-    let search = c.args.search.now in
-    sofar-all (g.S.Sheet.meaning search.sheet) (g.R.Rule.value search.rule) c.args.nodes c.args.grants (state_of search) c.loop.counter (summary_of c.loop.found) (state_of c.loop.search) c.loop-test.false c.loop.invariant.0

@@ -7,14 +7,15 @@ pub returns : goal.returns
 returns g c =
     let m = g.S.Sheet.meaning c.args.sheet in
     let pairing = c.best_pairing-pairing.result in
-    let found = c.in_ok-found.found in
-    let searched = c.in_ok-found.ensures in
+    let found = c.search_for-found.result in
+    let searched = c.search_for-found.ensures.found in
     let heaviest = c.best_pairing-pairing.ensures.heaviest in
-    let same = λ (done : found.finished ≡ true). only_one m (members pairing.set) (members found.set) pairing.points found.points heaviest (searched.first done) in
+    let same = λ (done : found.finished ≡ true). only_one m (members pairing.set) (members found.pairing.set) pairing.points found.pairing.points heaviest (searched.first done) in
     record {
       candidates = c.size-candidates.ensures;
       heaviest = heaviest;
       numbers = c.of-numbers.ensures.value;
       searched = searched;
+      promise = c.search_for-found.ensures.promise;
       same = λ done. ((same done).0, sym (same done).1);
     }
