@@ -1,15 +1,16 @@
 -- From the marks of words to the members of a set. Assumes nothing.
-use Rattle.std.proofs.Common.{◌≡◌, ℕ, zero, suc, ◌+◌, ◌-◌, ◌*◌, ◌/◌, ◌%◌, ◌^◌, ◌<◌, ◌≤◌, Bool, true, false, cond, not, ◌&&◌, ◌||◌, eqb, ltb, List, [], ◌∷◌, ◌++◌, length, get_or, set, Some, Decides, filter, sym, refl, ap, ◌∙◌, ⊎_elim, arith, length-append, get_or-set_other, get_or-set_same, ext_get_or}
-use lib.Bits.{bit_and, bit_or, or_add_and, and_le_l, and_le_r}
-use lib.Count.{count_trailing_zeros, ones}
+use Rattle.std.proofs.Common.{◌≡◌, ℕ, zero, suc, ◌+◌, ◌-◌, ◌*◌, ◌/◌, ◌%◌, ◌^◌, ◌<◌, ◌≤◌, Bool, true, false, cond, not, ◌&&◌, ◌||◌, eqb, ltb, List, [], ◌∷◌, ◌++◌, length, get_or, set, Some, Decides, filter, sym, refl, ap, ◌∙◌, ⊎_elim, subst, arith, length-append, get_or-set_other, get_or-set_same, ext_get_or}
+use lib.Bits.{bit_and, bit_or}
+use lib.Count.{count_trailing_zeros}
 use lib.Pow.{pow-lt}
+use Rattle.std.specs.List.{sum_by}
 use Rattle.std.proofs.lemmas.List.Elements.{filter-append}
 use Rattle.std.proofs.lemmas.Bool.{cases_lt, cases_eq, lt-ltb, le-ltb, both_ways, cond-true}
 use Rattle.std.proofs.lemmas.Bool.Decides.{nat_tests}
 use Rattle.candidates.specs.declared.set.CandidateSet.{CandidateSet}
 use Rattle.candidates.specs.Members.{bit, has, members}
 use Rattle.candidates.specs.Sets.{is_in, From, Ascending, counting, inserted, removed, least}
-use Rattle.candidates.proofs.Bits.{bit-none, bit-and, bit-or, bit-power, bit-complement, same-words, bit-below-trailing, trailing_below, bit-at-trailing, length-kept-from, ones-counts}
+use Rattle.candidates.proofs.Bits.{bit-none, bit-and, bit-or, bit-power, bit-complement, same-words, bit-below-trailing, trailing_below, bit-at-trailing, bit-cleared, length-kept-from}
 use Rattle.candidates.proofs.Sets.{and_comm, is_in-kept-by, is_in-counting, is_in-inserted, inserted-last, from-kept-by, from-counting, from-inserted, same-sets, least-is, kept-by-same, counting-append, cons-from-removed, length-kept-counting}
 
 -- ---- marks
@@ -32,6 +33,11 @@ each-four P a b c d (suc zero) h = b
 each-four P a b c d (suc (suc zero)) h = c
 each-four P a b c d (suc (suc (suc zero))) h = d
 each-four P a b c d (suc (suc (suc (suc q)))) h = absurd (omega arith)
+
+-- s has four words, of 64 marks each
+pub record Whole (s : CandidateSet) : Type 0 where
+  pub four : length s.words ≡ 4
+  pub narrow : (q : ℕ) → q < 4 → word s q < 2 ^ 64
 
 -- a set whose words have the marks that f says has just the members that f says
 pub has-by : (s : CandidateSet) (f : ℕ → Bool) → ((q j : ℕ) → q < 4 → j < 64 → bit (word s q) j ≡ f (64 * q + j)) → ((k : ℕ) → 256 ≤ k → f k ≡ false) → (k : ℕ) → has s k ≡ f k
@@ -174,55 +180,46 @@ nothing-from-marks s out = members-by s [] tt (λ k. ⊎_elim (out k) (has-outsi
 pub nothing-from-words : (s : CandidateSet) → ((q : ℕ) → q < 4 → word s q ≡ 0) → members s ≡ []
 nothing-from-words s zeros = nothing-from-marks s (λ k h. has-inside s k h ∙ ap (λ w. bit w (k % 64)) (zeros (k / 64) (omega arith)) ∙ bit-none (k % 64))
 
-pub words-from-nothing : (s : CandidateSet) → ((q : ℕ) → q < 4 → word s q < 2 ^ 64) → members s ≡ [] → (q : ℕ) → q < 4 → word s q ≡ 0
-words-from-nothing s narrow nothing q h =
-    same-words 64 (word s q) 0 (narrow q h) (omega arith)
-    (λ j l. sym (has-at s q j h l) ∙ sym (is_in-members s (64 * q + j)) ∙ ap (is_in (64 * q + j)) nothing ∙ sym (bit-none j))
-
-or-none : (a b : ℕ) → bit_or a b ≡ 0 → (a ≡ 0) × (b ≡ 0)
-or-none a b e = (omega (arith, or_add_and a b, and_le_l a b, and_le_r a b), omega (arith, or_add_and a b, and_le_l a b, and_le_r a b))
-
-pub or_nothing : (a b c d : ℕ) → (bit_or (bit_or (bit_or a b) c) d ≡ 0 → (a ≡ 0) × (b ≡ 0) × (c ≡ 0) × (d ≡ 0)) × ((a ≡ 0) × (b ≡ 0) × (c ≡ 0) × (d ≡ 0) → bit_or (bit_or (bit_or a b) c) d ≡ 0)
-or_nothing a b c d = (
-  λ e.
-      let last = or-none (bit_or (bit_or a b) c) d e in
-      let next = or-none (bit_or a b) c last.0 in
-      let first = or-none a b next.0 in
-      (first.0, first.1, next.1, last.1),
-  λ e. λ i. bit_or (bit_or (bit_or (e.0 i) (e.1 i)) (e.2 i)) (e.3 i),
-)
-
 -- ---- the lowest member
 
-pub lowest-in-word : (s : CandidateSet) (q : ℕ) → q < 4 → word s q < 2 ^ 64 → (word s q ≡ 0 → ⊥) → ((k : ℕ) → k < 64 * q → has s k ≡ false) → least (members s) ≡ Some (64 * q + count_trailing_zeros 64 (word s q))
-lowest-in-word s q h narrow some below =
+pub lowest-in-word : (s : CandidateSet) (q : ℕ) → q < 4 → word s q < 2 ^ 64 → (word s q ≡ 0 → ⊥) → ((p : ℕ) → p < q → word s p ≡ 0) → least (members s) ≡ Some (64 * q + count_trailing_zeros 64 (word s q))
+lowest-in-word s q h narrow some zeros =
     let t = count_trailing_zeros 64 (word s q) in
     let l : t < 64 = trailing_below 64 (word s q) narrow some in
     least-is 0 (64 * q + t) (members s) (members-from s)
     (is_in-members s (64 * q + t) ∙ has-at s q t h l ∙ bit-at-trailing 64 (word s q) l)
-    (λ k lower. is_in-members s k ∙ ⊎_elim (below k)
-    (λ here.
-    let j : ℕ = k - 64 * q in
-    let place : 64 * q + j ≡ k = omega arith in
-    ap (has s) (sym place) ∙ has-at s q j h (omega arith) ∙ bit-below-trailing 64 (word s q) j (omega arith))
-    (cases_lt k (64 * q)))
+    (λ k lower. is_in-members s k ∙ has-inside s k (omega arith) ∙ ⊎_elim
+    (λ before. ap (λ w. bit w (k % 64)) (zeros (k / 64) before) ∙ bit-none (k % 64))
+    (λ reached.
+    let here : k / 64 ≡ q = omega arith in
+    ap (λ p. bit (word s p) (k % 64)) here ∙ bit-below-trailing 64 (word s q) (k % 64) (omega arith))
+    (cases_lt (k / 64) q))
 
-pub none-in-word : (s : CandidateSet) (q : ℕ) → q < 4 → word s q ≡ 0 → ((k : ℕ) → k < 64 * q → has s k ≡ false) → (k : ℕ) → k < 64 * (q + 1) → has s k ≡ false
-none-in-word s q h zero' below k l = ⊎_elim (below k)
-    (λ here.
-    let j : ℕ = k - 64 * q in
-    let place : 64 * q + j ≡ k = omega arith in
-    ap (has s) (sym place) ∙ has-at s q j h (omega arith) ∙ ap (λ w. bit w j) zero' ∙ bit-none j)
-    (cases_lt k (64 * q))
+-- the lowest member and the others, which are left when the lowest mark of its word is taken
+pub taken-from-word : (s : CandidateSet) (q : ℕ) → length s.words ≡ 4 → q < 4 → word s q < 2 ^ 64 → (word s q ≡ 0 → ⊥) → ((p : ℕ) → p < q → word s p ≡ 0) → members s ≡ (64 * q + count_trailing_zeros 64 (word s q)) ∷ members (changed s q (bit_and (word s q) (word s q - 1)))
+taken-from-word s q four h narrow some zeros =
+    let w = word s q in
+    let t = count_trailing_zeros 64 w in
+    let l : t < 64 = trailing_below 64 w narrow some in
+    let v : ℕ = 64 * q + t in
+    let place : v / 64 ≡ q = omega arith in
+    let mark : v % 64 ≡ t = omega arith in
+    let marks = subst (λ p. (k : ℕ) → has (changed s p (bit_and w (w - 1))) k ≡ (has s k && not (eqb k v))) place
+    (has-edited s v (bit_and w (w - 1)) (λ b m. b && not m) four (omega arith)
+    (λ j _. bit-cleared 64 w j narrow some ∙ (λ i. bit (word s (sym place i)) j && not (eqb j (sym mark i)))) and-true) in
+    members-lowest s _ v (sym (lowest-in-word s q h narrow some zeros)) (members_kept s _ (λ k. not (eqb k v)) marks)
 
 -- ---- how many
 
+-- how many of the lowest n marks a word has
+abbrev pub marks_of : ℕ → ℕ → ℕ
+marks_of n w = length (filter (bit w) (counting 0 n))
+
 -- how many of the n numbers from a on pass, where word w has a mark for each
-counted : (p : ℕ → Bool) (w a n : ℕ) → w < 2 ^ n → ((j : ℕ) → j < n → p (a + j) ≡ bit w j) → length (filter p (counting a n)) ≡ ones w
-counted p w a n narrow marks =
+counted : (p : ℕ → Bool) (w a n : ℕ) → ((j : ℕ) → j < n → p (a + j) ≡ bit w j) → length (filter p (counting a n)) ≡ marks_of n w
+counted p w a n marks =
     length-kept-from p a n
     ∙ ap length (kept-by-same (λ j. p (a + j)) (bit w) (counting 0 n) (λ j here. marks j (in-counting j n here)))
-    ∙ sym (ones-counts n w narrow)
   where
     in-counting : (j n : ℕ) → is_in j (counting 0 n) ≡ true → j < n
     in-counting j n here = let e = is_in-counting j 0 n in grind (arith, nat_tests)
@@ -233,25 +230,29 @@ length-kept-two p a m n =
     ∙ ap length (filter-append p (counting a m) (counting (a + m) n))
     ∙ length-append (filter p (counting a m)) (filter p (counting (a + m) n))
 
-four-words : (p : ℕ → Bool) (n a b c d : ℕ) → a < 2 ^ n → b < 2 ^ n → c < 2 ^ n → d < 2 ^ n → ((j : ℕ) → j < n → p (0 + j) ≡ bit a j) → ((j : ℕ) → j < n → p (0 + n + j) ≡ bit b j) → ((j : ℕ) → j < n → p (0 + n + n + j) ≡ bit c j) → ((j : ℕ) → j < n → p (0 + n + n + n + j) ≡ bit d j) → length (filter p (counting 0 (n + (n + (n + n))))) ≡ ones a + ones b + ones c + ones d
-four-words p n a b c d na nb nc nd ma mb mc md =
-    let A = counted p a 0 n na ma in
-    let B = counted p b (0 + n) n nb mb in
-    let C = counted p c (0 + n + n) n nc mc in
-    let D = counted p d (0 + n + n + n) n nd md in
+four-words : (p : ℕ → Bool) (n a b c d : ℕ) → ((j : ℕ) → j < n → p (0 + j) ≡ bit a j) → ((j : ℕ) → j < n → p (0 + n + j) ≡ bit b j) → ((j : ℕ) → j < n → p (0 + n + n + j) ≡ bit c j) → ((j : ℕ) → j < n → p (0 + n + n + n + j) ≡ bit d j) → length (filter p (counting 0 (n + (n + (n + n))))) ≡ marks_of n a + marks_of n b + marks_of n c + marks_of n d
+four-words p n a b c d ma mb mc md =
+    let A = counted p a 0 n ma in
+    let B = counted p b (0 + n) n mb in
+    let C = counted p c (0 + n + n) n mc in
+    let D = counted p d (0 + n + n + n) n md in
     omega (arith, length-kept-two p 0 n (n + (n + n)), length-kept-two p (0 + n) n (n + n), length-kept-two p (0 + n + n) n n)
 
-pub count-words : (s : CandidateSet) → word s 0 < 2 ^ 64 → word s 1 < 2 ^ 64 → word s 2 < 2 ^ 64 → word s 3 < 2 ^ 64 → ones (word s 0) + ones (word s 1) + ones (word s 2) + ones (word s 3) ≡ length (members s)
+sum-four : (h : ℕ → ℕ) (ws : List ℕ) → length ws ≡ 4 → sum_by h ws ≡ h (get_or ws 0 0) + h (get_or ws 1 0) + h (get_or ws 2 0) + h (get_or ws 3 0)
+sum-four h [] four = absurd (omega arith)
+sum-four h (a ∷ []) four = absurd (omega arith)
+sum-four h (a ∷ b ∷ []) four = absurd (omega arith)
+sum-four h (a ∷ b ∷ c ∷ []) four = absurd (omega arith)
+sum-four h (a ∷ b ∷ c ∷ d ∷ []) four = omega arith
+sum-four h (a ∷ b ∷ c ∷ d ∷ e ∷ ws) four = absurd (omega arith)
+
+pub count-words : (s : CandidateSet) → length s.words ≡ 4 → sum_by (marks_of 64) s.words ≡ length (members s)
 unfolding members
-count-words s a b c d =
-    sym (four-words (has s) 64 (word s 0) (word s 1) (word s 2) (word s 3) a b c d (λ j l. has-at s 0 j (omega arith) l) (λ j l. has-at s 1 j (omega arith) l) (λ j l. has-at s 2 j (omega arith) l) (λ j l. has-at s 3 j (omega arith) l))
+count-words s four =
+    sum-four (marks_of 64) s.words four
+    ∙ sym (four-words (has s) 64 (word s 0) (word s 1) (word s 2) (word s 3) (λ j l. has-at s 0 j (omega arith) l) (λ j l. has-at s 1 j (omega arith) l) (λ j l. has-at s 2 j (omega arith) l) (λ j l. has-at s 3 j (omega arith) l))
 
 -- ---- sets with the same members are the same value
-
--- s and t have four words each, of 64 marks
-pub record Whole (s : CandidateSet) : Type 0 where
-  pub four : length s.words ≡ 4
-  pub narrow : (q : ℕ) → q < 4 → word s q < 2 ^ 64
 
 same_set : (s t : CandidateSet) → Whole s → Whole t → ((q : ℕ) → q < 4 → word s q ≡ word t q) → s ≡ t
 same_set s t a b same =
@@ -259,7 +260,7 @@ same_set s t a b same =
     let also = b.four in
     ap (λ (ws : List ℕ). record { words = ws }) (ext_get_or 0 s.words t.words (omega arith) (λ q h. same q (omega arith)))
 
-pub same-from-members : (s t : CandidateSet) → Whole s → Whole t → members s ≡ members t → (q : ℕ) → q < 4 → word s q ≡ word t q
+same-from-members : (s t : CandidateSet) → Whole s → Whole t → members s ≡ members t → (q : ℕ) → q < 4 → word s q ≡ word t q
 same-from-members s t a b same q h =
     same-words 64 (word s q) (word t q) (a.narrow q h) (b.narrow q h)
     (λ j l.

@@ -15,10 +15,8 @@ impl CandidateSet {
         if count > buffer.len() {
             return None;
         }
-        let mut place = 0;
-        for v in self.iter() {
+        for (place, v) in self.iter().enumerate() {
             buffer[place] = v;
-            place += 1;
         }
         Some(count)
     }

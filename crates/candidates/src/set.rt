@@ -7,6 +7,8 @@ ghost use Rattle.std.specs.Cmp.Rules.{comparing};
 ghost use Rattle.std.specs.Ordering.{on};
 ghost use Rattle.std.proofs.Common.{rules};
 
+use std::array;
+
 // 256 yes-or-no marks, 64 to a word: candidate k is mark k % 64 of word k / 64.
 #[derive(Clone, Copy)]
 pub struct CandidateSet {
@@ -34,12 +36,7 @@ impl CandidateSet {
         ensures list { members result ≡ counting 0 (min n 256) }
     {
         CandidateSet {
-            words: [
-                low_marks(n),
-                low_marks(n.saturating_sub(64)),
-                low_marks(n.saturating_sub(128)),
-                low_marks(n.saturating_sub(192)),
-            ],
+            words: array::from_fn(|i| low_marks(n.saturating_sub(64 * i))),
         }
     }
 
@@ -97,17 +94,15 @@ impl CandidateSet {
     pub fn is_empty(self) -> bool
         ensures { Decides result (members self ≡ []) }
     {
-        let [a, b, c, d] = self.words;
-        a | b | c | d == 0
+        self.lowest().is_none()
     }
 
     // The lowest member; an empty set has none.
     pub fn lowest(self) -> Option<usize>
         ensures { result ≡ least (members self) }
     {
-        for i in 0..4 {
-            let word = self.words[i];
-            if word != 0 {
+        for (i, word) in self.words.iter().enumerate() {
+            if *word != 0 {
                 return Some(64 * i + word.trailing_zeros() as usize);
             }
         }
@@ -117,8 +112,10 @@ impl CandidateSet {
     pub fn count(self) -> usize
         ensures { result ≡ length (members self) }
     {
-        let [a, b, c, d] = self.words;
-        (a.count_ones() + b.count_ones() + c.count_ones() + d.count_ones()) as usize
+        self.words
+            .iter()
+            .map(|word| word.count_ones() as usize)
+            .sum()
     }
 }
 
@@ -133,6 +130,7 @@ impl PartialEq for CandidateSet {
         ensures list { Decides result (members self.now ≡ members other.now) }
         ensures same { Decides result (self.now ≡ other.now) }
     {
+        // word by word: the members are equal only because each word is below 2 ^ 64, which reading it tells
         let [a, b, c, d] = self.words;
         let [p, q, r, s] = other.words;
         (a == p) & (b == q) & (c == r) & (d == s)

@@ -12,11 +12,7 @@ impl CandidateSet {
     pub fn iter(self) -> Members
         ensures { remaining result ≡ members self }
     {
-        Members {
-            words: self.words,
-            place: 0,
-            word: self.words[0],
-        }
+        Members { left: self }
     }
 }
 
@@ -28,15 +24,13 @@ impl Iterator for Members {
     ghost remaining = { item_count remaining };
 
     fn next(&mut self) -> Option<usize> {
-        while self.word == 0 {
-            if self.place == 3 {
-                return None;
+        for (i, word) in self.left.words.iter_mut().enumerate() {
+            if *word != 0 {
+                let v = 64 * i + word.trailing_zeros() as usize;
+                *word &= *word - 1;
+                return Some(v);
             }
-            self.place += 1;
-            self.word = self.words[self.place];
         }
-        let v = 64 * self.place + self.word.trailing_zeros() as usize;
-        self.word &= self.word - 1;
-        Some(v)
+        None
     }
 }

@@ -1,24 +1,25 @@
-use Rattle.std.proofs.Common.{◌+◌, ◌≤◌, arith}
-use lib.Count.{ones, ones-le}
-use Rattle.candidates.proofs.Marks.{word, count-words}
+use Rattle.std.proofs.Common.{◌≡◌, ◌^◌, ◌<◌, ◌∙◌, arith, rules, tests}
+use lib.Count.{ones}
+use Rattle.std.specs.List.{sum_by}
+use Rattle.std.proofs.lemmas.Iterator.{YieldsList-from_slice, YieldsList-from_map}
+use Rattle.std.proofs.lemmas.Iterator.Consumers.{YieldsList-at, sum_by_from_yields_List, fits_by_from_yields_list}
+use Rattle.candidates.proofs.Bits.{ones-counts}
+use Rattle.candidates.proofs.Marks.{marks_of, count-words, length-members}
 use Rattle.candidates.proofs.set.CandidateSet.count.Goals as goal
 
-most : (c : goal.After-d-1) → let s = c.args.self in ones (word s 0) + ones (word s 1) + ones (word s 2) + ones (word s 3) ≤ 256
-most c =
+pub sum-requires-clause-fits : goal.sum-requires-clause-fits
+sum-requires-clause-fits c =
     let s = c.args.self in
-    omega (arith, ones-le 64 (word s 0) (omega arith), ones-le 64 (word s 1) (omega arith), ones-le 64 (word s 2) (omega arith), ones-le 64 (word s 3) (omega arith))
-
-pub overflow_add-result : goal.overflow_add-result
-overflow_add-result c = omega (arith, most c)
-
-pub overflow_add-result-2 : goal.overflow_add-result-2
-overflow_add-result-2 c = omega (arith, most c)
-
-pub overflow_add-result-3 : goal.overflow_add-result-3
-overflow_add-result-3 c = omega (arith, most c)
-
-pub overflow_cast-result : goal.overflow_cast-result
-overflow_cast-result c = omega (arith, most c)
+    let few : sum_by (marks_of 64) s.words < 2 ^ 64 = omega (arith, count-words s (omega arith), length-members s) in
+    fits_by_from_yields_list (marks_of 64) s.words c.map.result _ (YieldsList-from_map _ (marks_of 64) (YieldsList-at c.map.ensures.source (YieldsList-from_slice s.words c.iter.ensures.rest)) c.map.ensures.closure (λ x r q k.
+    let small : x.now < 2 ^ 64 = search (rules, tests) in
+    let is : r ≡ ones x.now = search (rules, tests) in
+    (search (rules, tests), is ∙ ones-counts 64 x.now small))) few
 
 pub returns : goal.returns
-returns c = count-words c.args.self (omega arith) (omega arith) (omega arith) (omega arith)
+returns c =
+    let s = c.args.self in
+    sum_by_from_yields_List (marks_of 64) s.words _ c.sum.result c.sum.ensures.ran (YieldsList-from_map _ (marks_of 64) (YieldsList-at c.map.ensures.source (YieldsList-from_slice s.words c.iter.ensures.rest)) c.map.ensures.closure (λ x r q k.
+    let small : x.now < 2 ^ 64 = search (rules, tests) in
+    let is : r ≡ ones x.now = search (rules, tests) in
+    (search (rules, tests), is ∙ ones-counts 64 x.now small))) ∙ count-words s (omega arith)

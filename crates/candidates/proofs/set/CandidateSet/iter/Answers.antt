@@ -1,6 +1,7 @@
 use Rattle.std.proofs.Common.{refl}
-use Rattle.candidates.proofs.Walk.{remaining-first}
+use Rattle.candidates.specs.Walk.{remaining}
 use Rattle.candidates.proofs.set.CandidateSet.iter.Goals as goal
 
 pub returns : goal.returns
-returns c = remaining-first _ refl refl
+unfolding remaining
+returns c = refl

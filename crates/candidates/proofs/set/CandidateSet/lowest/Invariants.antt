@@ -1,7 +1,6 @@
-use Rattle.std.proofs.Common.{◌≡◌, ℕ, ◌*◌, ◌<◌, false}
-use Rattle.candidates.specs.Members.{has}
+use Rattle.std.proofs.Common.{◌≡◌, ℕ, ◌<◌, get_or}
 use Rattle.candidates.proofs.set.CandidateSet.lowest.Given as goal
 
--- no member in the words before
+-- the words before are 0
 abbrev pub invariant-loop-i : goal.invariant-loop-i
-invariant-loop-i l = (k : ℕ) → k < 64 * l.i → has l.self k ≡ false
+invariant-loop-i l = (q : ℕ) → q < l.i → get_or l.word-items q 0 ≡ 0
