@@ -13,6 +13,7 @@ pub enum EvidenceFault {
 }
 
 impl EvidenceFault {
+    // The number that the refusal is told by.
     pub fn number(self) -> u16
         ensures { result ≡ number_of self }
     {

@@ -23,6 +23,7 @@ pub enum TableFault {
 }
 
 impl TableFault {
+    // The number that the refusal is told by.
     pub fn number(self) -> u16
         ensures { result ≡ table_number self }
     {

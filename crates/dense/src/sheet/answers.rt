@@ -19,6 +19,7 @@ impl Sheet for DenseSheet {
     }
 
     fn points(&self, u: usize, v: usize) -> Points {
+        // With v from 256 on the place would be one of a later row.
         if u < 256 && v < 256 {
             Points::from(self.points[256 * u + v])
         } else {
