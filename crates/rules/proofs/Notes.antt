@@ -1,20 +1,20 @@
 -- What is noted, as a function.
-use Rattle.std.proofs.Common.{◌≡◌, ℕ, zero, suc, ◌<◌, true, cond, eqb, List, ◌∷◌, length, set, replicate, sym, refl, ap, ◌∙◌, inl, inr, arith, get_or-set_other, get_or-set_same}
+use Rattle.std.proofs.Common.{◌≡◌, ℕ, ◌<◌, true, cond, eqb, List, ◌∷◌, length, set, replicate, sym, ap, ◌∙◌, inl, inr, arith, get_or-set_other, get_or-set_same}
 use mathlib.Core.Path.{fun_ext}
-use Rattle.std.proofs.lemmas.Bool.{eq-eqb, ne_eqb, cond-true, cond-false, cases_eq, eqb-true}
+use Rattle.std.proofs.lemmas.List.{get_or-replicate, get_or_past, length-replicate}
+use Rattle.std.proofs.lemmas.Bool.{cases_lt, eq-eqb, ne_eqb, cond-true, cond-false, cases_eq, eqb-true}
 use Rattle.std.proofs.lemmas.Bool.Decides.{nat_tests}
 use Rattle.candidates.specs.Sets.{is_in}
 use Rattle.rules.specs.Noted.{at, noted}
 
 pub at-zeros : (n : ℕ) → at (record { 0 = replicate n 0 }) ≡ (λ _. 0)
 unfolding at
-at-zeros n = fun_ext (each n)
-  where
-    each : (n k : ℕ) → at (record { 0 = replicate n 0 }) k ≡ 0
-    each zero k = refl
-    each (suc n) zero = refl
-    each (suc n) (suc k) = each n k
+at-zeros n = fun_ext (λ k. elim (cases_lt k n) [
+  | inl h ↦ get_or-replicate n k 0 0 h
+  | inr h ↦ get_or_past (replicate n 0) k 0 (omega (arith, length-replicate {A = ℕ} n 0))
+])
 
+-- a write changes one number
 pub at-set : (xs : List ℕ) (v x : ℕ) → v < length xs → at (record { 0 = set xs v x }) ≡ noted v x (at (record { 0 = xs }))
 unfolding at
 at-set xs v x h = fun_ext (λ k. elim (cases_eq k v) [

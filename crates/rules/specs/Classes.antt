@@ -1,9 +1,9 @@
 -- The classes of the colour rule: no two of one fit, and each candidate is in one of them.
-use Rattle.std.specs.Prelude.{◌≡◌, ℕ, zero, suc, ◌<◌, ◌≤◌, Bool, true, false, not, List, [], ◌∷◌, map, length, filter, ◌==◌, nat_lt, slice_index_or, refl}
+use Rattle.std.specs.Prelude.{◌≡◌, ℕ, zero, suc, ◌<◌, ◌≤◌, Bool, true, false, not, List, [], ◌∷◌, map, length, filter, ◌==◌, slice_index_or, refl}
 use Rattle.std.proofs.Common.{inl, inr, sym, ap, subst, ◌∙◌, arith}
-use Rattle.std.proofs.lemmas.Bool.{or_left, or_cases, and_from, and_parts, not-true, not_from_true, not_from_false, both_ways, cases_Bool, eqb-true, cond_both, false≢true}
+use Rattle.std.proofs.lemmas.Bool.{or_cases, and_from, and_parts, not-true, not_from_true, not_from_false, both_ways, cases_Bool, eqb-true, cond_both, false≢true}
 use Rattle.candidates.specs.Sets.{is_in, Within, removed, without}
-use Rattle.candidates.proofs.Sets.{in-first, in_rest, is_in-kept-by, sub-kept-by, length-sub}
+use Rattle.candidates.proofs.Sets.{in-first, is_in-kept-by, sub-kept-by, length-sub}
 use Rattle.sheets.specs.Meaning.{Meaning, Lawful}
 use Rattle.rules.specs.Least.{least_by, least_by-in}
 use Rattle.rules.specs.Colour.{started, joinable, class, class_of, raised, coloured, classes, Independent, Partition}

@@ -8,9 +8,6 @@ use Rattle.rules.specs.Noted.{at, noted}
 use Rattle.rules.proofs.Notes.{filled, filled-more}
 use Rattle.rules.proofs.colour.started.Goals as goal
 
-pub loop-v-init : goal.loop-v-init
-loop-v-init g c = ap (filled (rho (g.S.Sheet.meaning c.args.sheet.now) (members c.args.c)) (remaining c.into_iter-v-iterator.result)) c.zeros-sigma.ensures
-
 pub note-requires : goal.note-requires
 note-requires g c = next-below _ _ _ c.in-Some.ensures.steps
 

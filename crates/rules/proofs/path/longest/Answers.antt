@@ -13,13 +13,6 @@ use Rattle.rules.proofs.path.longest.Given as given
 use Rattle.rules.proofs.path.longest.Goals as goal
 use Rattle.rules.proofs.path.longest.Goals.{After-max-most}
 
-pub loop-v-init : goal.loop-v-init
-loop-v-init g c =
-    let m = g.S.Sheet.meaning c.args.sheet.now in
-    let C = members c.args.c in
-    let S = remaining c.into_iter-v-iterator.result in
-    (ap (λ l. l ++ S) c.empty-lower.ensures.list, (λ i. max 0 (longest m C (c.empty-lower.ensures.list i) (c.zeros-lengths.ensures i) S)) ∙ omega arith)
-
 pub note-requires : goal.note-requires
 note-requires g c = next-below _ _ _ c.in-Some.ensures.steps
 

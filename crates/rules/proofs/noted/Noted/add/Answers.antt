@@ -1,4 +1,4 @@
-use Rattle.std.proofs.Common.{arith, rules}
+use Rattle.std.proofs.Common.{arith}
 use Rattle.rules.specs.Noted.{at}
 use Rattle.rules.proofs.Notes.{at-set}
 use Rattle.rules.proofs.noted.Noted.add.Goals as goal
