@@ -8,7 +8,7 @@ use std::marker::Model;
 pub mod methods;
 pub mod node;
 
-// The frames, and the weight of the held set, if one is held, beside its marks.
+// The frames, and the weight of the held set, if one is held, beside its marks: each node asks the weight, and few the marks.
 #[derive(Drop)]
 pub struct Core {
     stack: Stack<Frame>,

@@ -10,4 +10,3 @@ pub mod Grants
 pub mod Runs
 pub mod Told
 pub mod Promised
-pub mod ByHand

@@ -1,16 +1,12 @@
 -- Node after node: what is left gives the whole.
-use Rattle.std.proofs.Common.{◌≡◌, ℕ, zero, suc, ◌+◌, ◌-◌, ◌<◌, true, false, sym, refl, ap, ◌∙◌, arith}
-use Rattle.std.proofs.lemmas.Bool.{cond-true, cond-false}
+use Rattle.std.proofs.Common.{◌≡◌, ℕ, suc, ◌+◌, ◌-◌, ◌<◌, false, sym, ap, ◌∙◌, arith}
+use Rattle.std.proofs.lemmas.Bool.{cond-false}
 use Rattle.rules.specs.Bounds.{Number}
 use Rattle.runs.specs.Calls.{progress, stopped, further}
 use Rattle.runs.specs.State.{State, finished, node}
 use Rattle.sheets.specs.Meaning.{Meaning}
 
 module _ (m : Meaning) (number : Number) where
-  progress-finished : (k : ℕ) (s : State) → finished s ≡ true → progress m number k s ≡ stopped s
-  progress-finished zero s end = refl
-  progress-finished (suc k) s end = cond-true (finished s) (stopped s) (further (progress m number k (node m number s))) end
-
   progress-suc : (k : ℕ) (s : State) → finished s ≡ false → progress m number (suc k) s ≡ further (progress m number k (node m number s))
   progress-suc k s more = cond-false (finished s) (stopped s) (further (progress m number k (node m number s))) more
 
@@ -24,8 +20,3 @@ module _ (m : Meaning) (number : Number) where
       let same : k - done ≡ suc (k - (done + 1)) = omega arith in
       let step = ap (λ n. progress m number n t) same ∙ progress-suc (k - (done + 1)) t more ∙ ap (λ x. further (progress m number (k - (done + 1)) x)) (sym next) in
       record { nodes = omega (arith, a.nodes, ap (λ p. p.nodes) step); state = sym (ap (λ p. p.reached) step) ∙ a.state }
-
-  pub advanced-finished : (k : ℕ) (s : State) (done : ℕ) (t : State) → finished t ≡ true → Advanced k s done t → (done ≡ (progress m number k s).nodes) × (t ≡ (progress m number k s).reached)
-  advanced-finished k s done t end a =
-      let stop = progress-finished (k - done) t end in
-      (omega (arith, a.nodes, ap (λ p. p.nodes) stop), sym (ap (λ p. p.reached) stop) ∙ a.state)

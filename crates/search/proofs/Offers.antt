@@ -1,7 +1,7 @@
 -- The questions put to an offer, entry by entry.
 use Rattle.std.proofs.Common.{◌≡◌, ℕ, ◌+◌, ◌<◌, ◌≤◌, true, cond, ltb, leb, List, [], ◌∷◌, ◌++◌, length, get_or, take, drop, Some, None, Option, sym, ap, ◌∙◌, add-one, arith}
 use Rattle.std.specs.List.{prefix_len}
-use Rattle.std.proofs.lemmas.List.{take_more, drop_more, length-take-le, at_drop_all}
+use Rattle.std.proofs.lemmas.List.{take_more, drop_more, length-take-le}
 use Rattle.std.proofs.lemmas.Bool.Decides.{nat_tests}
 use Rattle.candidates.specs.Sets.{is_in}
 use Rattle.candidates.proofs.Sets.{is_in-append}
@@ -33,20 +33,8 @@ module _ (m : Meaning) (list : List ℕ) (least place : ℕ) (inside : place < l
       (Some (NotAbove (at i))))
       (Some (NotBelow (at i))))
 
-  pub asked-not-below : m.size ≤ v → asked_from m list least place ≡ Some (NotBelow place)
-  asked-not-below high = let step = asked-more in grind (arith, nat_tests)
-
-  pub asked-not-above : v < m.size → v < least → asked_from m list least place ≡ Some (NotAbove place)
-  asked-not-above low late = let step = asked-more in grind (arith, nat_tests)
-
-  pub asked-not-fitting : (earlier : ℕ) → v < m.size → least ≤ v → Some earlier ≡ first_unfit m v before → asked_from m list least place ≡ Some (NotFitting place earlier)
-  asked-not-fitting earlier low up unfit = let step = asked-more in grind (arith, nat_tests)
-
   pub asked-next : v < m.size → least ≤ v → None ≡ first_unfit m v before → asked_from m list (v + 1) (place + 1) ≡ asked_from m list least place
   asked-next low up fits = let step = asked-more in grind (arith, nat_tests)
-
-pub asked-none : (m : Meaning) (list : List ℕ) (least place : ℕ) → length list ≤ place → asked_from m list least place ≡ None
-asked-none m list least place past = at_drop_all (λ xs. first_no (offer_questions m (take place list) least xs)) list place past
 
 pub below-push : (xs : List ℕ) (least v : ℕ) → ((k : ℕ) → is_in k xs ≡ true → k < least) → least ≤ v → (k : ℕ) → is_in k (xs ++ v ∷ []) ≡ true → k < v + 1
 below-push xs least v below up k e = let parts = is_in-append k xs (v ∷ []) in let old = below k in grind (arith, nat_tests)

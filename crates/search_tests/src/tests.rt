@@ -85,12 +85,10 @@ fn refused_grants(rt: HostRuntime) -> Result<(), Fail> {
 #[test]
 fn calls_one_after_another(rt: HostRuntime) -> Result<(), Fail> {
     let heap = rt.alloc();
-    let mut buffer = Vec::new(heap);
-    buffer.push(9)?;
     let calls = [
         Call::Grant(0),
         Call::Grant(1_000_000),
-        Call::Held(buffer),
+        Call::Held(vec![in heap; 9]?),
         Call::Ceiling,
     ];
     let answers = replay(heap, TableSheet::new(4, &SMALL)?, Colour, &calls)?;

@@ -36,7 +36,8 @@ fn branch_top(stack: &mut Stack<Frame>, v: usize, fitting: CandidateSet, bound: 
     }
 }
 
-// One node: the top frame is examined. A finished search stays as it is.
+// One node: the top frame is examined. A finished search stays as it is. (Sheet and rule are two parameters, since one rule
+// serves any sheet.)
 pub fn node<S: Sheet, R: Rule>(sheet: &S, rule: &R, core: &mut Core)
     ensures { core.new ≡ node_of (S.Sheet.meaning sheet.now) (R.Rule.value rule.now) core.old }
 {

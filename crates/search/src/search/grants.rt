@@ -26,7 +26,8 @@ impl<S: Sheet, R: Rule> Search<S, R> {
         k
     }
 
-    // At most k nodes, from 1 to 1,000,000: how many were done, and whether the search is finished.
+    // At most k nodes, from 1 to 1,000,000: how many were done, and whether the search is finished, as a pair that callers
+    // take apart at once.
     pub fn grant(&mut self, k: u64) -> Result<(u64, bool), GrantRefusal>
         ensures value { replied (grant_answer result) (state_of self.new) ≡ grant_of (S.Sheet.meaning self.old.sheet) (R.Rule.value self.old.rule) (state_of self.old) k }
         ensures same { Kept self.old self.new }

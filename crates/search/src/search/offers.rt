@@ -26,6 +26,7 @@ fn accepted<S: Sheet>(sheet: &S, list: &[usize]) -> Result<CandidateSet, OfferRe
 {
     let mut set = CandidateSet::empty();
     let mut least = 0;
+    // A refusal names the place, and each entry is asked against those before it, so the list is walked with its index.
     for (place, v) in list.iter().enumerate() {
         if *v >= sheet.size() {
             return Err(OfferRefusal::NotBelow(place));

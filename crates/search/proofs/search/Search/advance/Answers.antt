@@ -1,15 +1,8 @@
 use Rattle.std.proofs.Common.{sym, ◌∙◌}
 use Rattle.runs.specs.State.{node}
 use Rattle.search.specs.Searching.{state_of}
-use Rattle.search.proofs.Advance.{advanced-more, advanced-finished}
+use Rattle.search.proofs.Advance.{advanced-more}
 use Rattle.search.proofs.search.Search.advance.Goals as goal
-
-pub returns-then-is_finished : goal.returns-then-is_finished
-returns-then-is_finished g c =
-    let self = c.args.self.now in
-    let inv = c.loop-done.invariant in
-    let all = advanced-finished (g.S.Sheet.meaning self.sheet) (g.R.Rule.value self.rule) c.args.k (state_of self) c.loop-done.done (state_of c.loop-done.self) (sym c.if-is_finished.ensures) inv.0 in
-    record { nodes = all.0; after = all.1; same = (inv.1, inv.2) }
 
 pub loop-done-preserved : goal.loop-done-preserved
 loop-done-preserved g c =

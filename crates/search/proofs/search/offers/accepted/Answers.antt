@@ -1,22 +1,10 @@
 use Rattle.std.proofs.Common.{◌≡◌, ℕ, ◌+◌, ◌<◌, true, [], ◌∷◌, ◌++◌, get_or, sym, ap, ◌∙◌, subst, arith}
-use Rattle.std.proofs.lemmas.List.{take_more, take_all}
+use Rattle.std.proofs.lemmas.List.{take_more}
 use Rattle.candidates.specs.Members.{members}
 use Rattle.candidates.specs.Sets.{is_in}
 use Rattle.candidates.proofs.Marks.{members-last}
-use Rattle.search.proofs.Offers.{asked-not-below, asked-not-above, asked-not-fitting, asked-next, asked-none, below-push}
+use Rattle.search.proofs.Offers.{asked-next, below-push}
 use Rattle.search.proofs.search.offers.accepted.Goals as goal
-
-pub returns-then-v-size : goal.returns-then-v-size
-returns-then-v-size g c =
-    sym c.loop-place.invariant.3 ∙ asked-not-below (g.S.Sheet.meaning c.args.sheet.now) c.args.list.now c.loop-place.least c.loop-place.place c.loop-place-test.true (omega (arith, c.size.ensures, c.if-v-size.true))
-
-pub returns-then-v-least : goal.returns-then-v-least
-returns-then-v-least g c =
-    sym c.loop-place.invariant.3 ∙ asked-not-above (g.S.Sheet.meaning c.args.sheet.now) c.args.list.now c.loop-place.least c.loop-place.place c.loop-place-test.true (omega (arith, c.size.ensures, c.if-v-size.false)) c.if-v-least.true
-
-pub returns-in-Some : goal.returns-in-Some
-returns-in-Some g c =
-    sym c.loop-place.invariant.3 ∙ asked-not-fitting (g.S.Sheet.meaning c.args.sheet.now) c.args.list.now c.loop-place.least c.loop-place.place c.loop-place-test.true c.in-Some.earlier (omega (arith, c.size.ensures, c.if-v-size.false)) c.if-v-least.false c.in-Some.ensures
 
 pub loop-place-preserved : goal.loop-place-preserved
 loop-place-preserved g c =
@@ -33,9 +21,3 @@ loop-place-preserved g c =
       omega arith,
       asked-next m list c.loop-place.least c.loop-place.place c.loop-place-test.true low c.if-v-least.false c.in_default.ensures ∙ c.loop-place.invariant.3,
     )
-
-pub returns : goal.returns
-returns g c = (
-  sym c.loop-place.invariant.3 ∙ asked-none (g.S.Sheet.meaning c.args.sheet.now) c.args.list.now c.loop-place.least c.loop-place.place c.loop-place-test.false,
-  c.loop-place.invariant.0 ∙ take_all c.loop-place.place c.args.list.now c.loop-place-test.false,
-)
