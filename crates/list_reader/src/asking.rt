@@ -23,6 +23,7 @@ impl Records<'_> {
     }
 
     // Pair, order and points of record j.
+    #[tactic(auto, using(std::proofs::lemmas::Bool::Decides::nat_tests), unfolding(blocks::specs::Questions::record_questions))]
     fn check_record(&self, j: usize) -> Result<(), ListFault>
         ensures { result ≡ first_no (record_questions self.now.bytes.now j) }
     {

@@ -11,5 +11,4 @@ use Rattle.blocks.proofs.checks.zero_from.Goals as goal
 pub returns : goal.returns
 returns c =
     let block = c.args.block.now in
-    let chain = YieldsList-from_skip c.args.start (YieldsList-from_take 508 (YieldsList-from_slice block cc) (cc)) (cc) in
-    all_from_yields_List (λ b. eqb b 0) _ _ c.all.result c.all.ensures.ran chain (λ x b q k. search (rules, tests)) ∙ (all_zero-list_all (drop c.args.start (take 508 block)) ∙ ap all_zero (sym (between_is block c.args.start 508)))
+    all_from_yields_List (λ b. eqb b 0) _ _ c.all.result c.all.ensures.ran (YieldsList-from_skip c.args.start (YieldsList-from_take 508 (YieldsList-from_slice block cc) (cc)) (cc)) (λ x b q k. search (rules, tests)) ∙ (all_zero-list_all (drop c.args.start (take 508 block)) ∙ ap all_zero (sym (between_is block c.args.start 508)))

@@ -88,9 +88,3 @@ loop-j-preserved c =
     let bytes = c.args.bytes.now in
     let less : c.loop-j.j < record_count bytes = omega arith in
     turn-ok (record_questions bytes) c.loop-j.j (record_count bytes) less [] (sym c.in_ok-check_record.ensures) ∙ c.loop-j.invariant
-
-pub returns : goal.returns
-returns c =
-    let bytes = c.args.bytes.now in
-    let past : record_count bytes ≤ c.loop-j.j = omega arith in
-    sym (turn-all (record_questions bytes) c.loop-j.j (record_count bytes) past []) ∙ c.loop-j.invariant

@@ -10,15 +10,3 @@ returns-then-u-v c =
     let low : get_or c.to_le_bytes.result 0 0 ≡ c.key-key.result % 256 = ap (λ bs. get_or bs 0 0) c.to_le_bytes.ensures in
     let high : get_or c.to_le_bytes.result 1 0 ≡ c.key-key.result / 256 % 256 = ap (λ bs. get_or bs 1 0) c.to_le_bytes.ensures in
     elim c.then-u-v.branch [ then-u-v-via-then-u-v w ↦ grind (arith, nat_tests) | then-u-v-via-else-u-v+then-v-byte_at w ↦ grind (arith, nat_tests) ]
-
-pub returns-then-key : goal.returns-then-key
-unfolding record_questions
-returns-then-key c = grind (arith, nat_tests)
-
-pub returns-then-points-ge65535 : goal.returns-then-points-ge65535
-unfolding record_questions
-returns-then-points-ge65535 c = grind (arith, nat_tests)
-
-pub returns : goal.returns
-unfolding record_questions
-returns c = grind (arith, nat_tests)
