@@ -14,6 +14,7 @@ pub(crate) struct Record {
 }
 
 impl Record {
+    #[tactic(auto, unfolding(blocks::specs::Bytes::low_first, blocks::specs::Format::record_bytes))]
     pub(crate) fn to_bytes(self) -> [u8; 4]
         ensures { result ≡ record_bytes (record_meant self) }
     {
@@ -24,6 +25,7 @@ impl Record {
 }
 
 // Whether the pair of a key has a record.
+#[tactic(auto, unfolding(blocks::specs::Format::has_record))]
 fn has_record<S: Sheet>(sheet: &S, key: usize) -> bool
     ensures { result ≡ has_record (S.Sheet.meaning sheet.now) key }
 {
@@ -62,6 +64,7 @@ impl<'a, S: Sheet> Iterator for Records<'a, S> {
 
     ghost remaining = { item_count (to_come S.Sheet.meaning) };
 
+    #[tactic(auto, unfolding(blocks::specs::Format::record_of))]
     fn next(&mut self) -> Option<Record> {
         let key = next_key(self.sheet, self.next)?;
         let points = self.sheet.points(key % 256, key / 256);

@@ -19,6 +19,7 @@ fn next_block<S: Sheet>(place: u16, low: u8, records: &mut Records<'_, S>) -> [u
     let mut block = [0; 512];
     block[..2].copy_from_slice(&place.to_le_bytes());
     block[3] = low;
+    // Of `records.take(126)` no proof would know what the walk has left afterwards.
     for i in 0..126 {
         let Some(record) = records.next() else { break };
         block[2] += 1;
@@ -52,6 +53,7 @@ pub fn write_list<S: Sheet>(sheet: &S, buffer: &mut [u8]) -> Result<usize, Write
     let mut records = Records::of(sheet);
     for place in 0..blocks {
         let block = next_block(place as u16, low, &mut records);
+        // By place: after `chunks_exact_mut` no proof knows the bytes.
         buffer[512 * place..512 * place + 512].copy_from_slice(&block);
     }
     Ok(512 * blocks)
