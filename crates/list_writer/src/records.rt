@@ -1,5 +1,5 @@
 // The records of a sheet, in the order of their keys.
-ghost use Rattle.std.specs.Prelude.{◌≡◌, ◌+◌, ◌<◌, [], ◌∷◌, IfSome, MatchOption};
+ghost use Rattle.std.specs.Prelude.{◌≡◌, ◌+◌, ◌<◌, [], ◌∷◌, IfSome, MatchOption, length};
 ghost use Rattle.std.specs.Iterator.{YieldsFirstBy, item_count};
 ghost use Rattle.blocks.specs.Format.{has_record, record_bytes, record_of, records, records_from};
 ghost use Rattle.list_writer.specs.Records.{record_meant, to_come};
@@ -32,6 +32,15 @@ fn has_record<S: Sheet>(sheet: &S, key: usize) -> bool
     let u = key % 256;
     let v = key / 256;
     u < v && sheet.fits(u, v)
+}
+
+// How many records there are.
+pub(crate) fn count_records<S: Sheet>(sheet: &S) -> usize
+    ensures { result ≡ length (records (S.Sheet.meaning sheet.now)) }
+{
+    (0..256 * sheet.size())
+        .filter(|key| has_record(sheet, *key))
+        .count()
 }
 
 // The first key from the given one on that has a record.

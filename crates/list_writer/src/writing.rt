@@ -7,7 +7,7 @@ ghost use Rattle.list_writer.specs.Rounds.{RoundTrip};
 ghost use Rattle.list_writer.specs.Worked.{WorkedLists};
 
 use crate::faults::WriteFault;
-use crate::records::Records;
+use crate::records::{Records, count_records};
 use blocks::checks::check_of;
 use sheets::sheet::Sheet;
 
@@ -35,7 +35,7 @@ fn block_count<S: Sheet>(sheet: &S) -> usize
     ensures value { result ≡ blocks_for (length (records (S.Sheet.meaning sheet.now))) }
     ensures bound { result ≤ 260 }
 {
-    Records::of(sheet).count().div_ceil(126).max(1)
+    count_records(sheet).div_ceil(126).max(1)
 }
 
 // Writes the list of a sheet, in as few blocks as possible.
