@@ -2,29 +2,26 @@
 use list_reader::asking::check_list;
 use list_reader::sheet::read_input;
 use list_writer::copies::copy_list;
+use list_writer::faults::WriteFault;
 use list_writer::writing::write_list;
 use sheets::table::TableSheet;
 use std::alloc::{AllocError, Global};
 use std::test::Fail;
 
-fn put(bytes: &mut [u8; 1024], place: usize, byte: u8) {
-    if place < 1024 {
-        bytes[place] = byte;
+// Puts bytes at the start of a part.
+fn put(part: &mut [u8], bytes: &[u8]) {
+    for (byte, new) in part.iter_mut().zip(bytes) {
+        *byte = *new;
     }
 }
 
-// Puts the right check into the block that starts at a byte. It is summed here, and not by the product.
-fn seal(bytes: &mut [u8; 1024], start: usize) {
-    let mut sum = 0usize;
-    for i in 0..508usize {
-        let place = start.wrapping_add(i);
-        if place < 1024 {
-            sum = sum.wrapping_add((i + 1).wrapping_mul(bytes[place] as usize));
-        }
-    }
-    for place in 508..512usize {
-        put(bytes, start.wrapping_add(place), (sum % 256) as u8);
-        sum /= 256;
+// Puts the right check into a block. It is summed here, and not by the product.
+fn seal(block: &mut [u8]) {
+    if let Some((content, check)) = block.split_last_chunk_mut::<4>() {
+        let sum = content.iter().zip(1..509u32).fold(0u32, |sum, (byte, k)| {
+            sum.wrapping_add(k.wrapping_mul(u32::from(*byte)))
+        });
+        *check = sum.to_le_bytes();
     }
 }
 
@@ -32,28 +29,24 @@ fn seal(bytes: &mut [u8; 1024], start: usize) {
 // 5 and 16, and 10 records.
 fn list(changes: &[(usize, u8)]) -> [u8; 1024] {
     let mut bytes = [0; 1024];
-    let mut place = 4usize;
-    for v in 0..17u8 {
-        for u in 0..v {
-            put(&mut bytes, place, u);
-            put(&mut bytes, place.wrapping_add(1), v);
-            put(&mut bytes, place.wrapping_add(2), 3);
-            place = place.wrapping_add(4);
-            if place == 508 {
-                place = 516;
-            }
+    let (first, second) = bytes.split_at_mut(512);
+    put(&mut first[2..4], &[126, 16]);
+    put(&mut second[0..4], &[1, 0, 10, 16]);
+    let records = first[4..508]
+        .chunks_exact_mut(4)
+        .chain(second[4..508].chunks_exact_mut(4));
+    let pairs = (0..17u8).flat_map(|v| (0..v).map(move |u| [u, v]));
+    for (record, [u, v]) in records.zip(pairs) {
+        put(record, &[u, v, 3]);
+    }
+    for (place, byte) in changes {
+        if let Some(changed) = bytes.get_mut(*place) {
+            *changed = *byte;
         }
     }
-    bytes[2] = 126;
-    bytes[3] = 16;
-    bytes[512] = 1;
-    bytes[514] = 10;
-    bytes[515] = 16;
-    for change in changes {
-        put(&mut bytes, change.0, change.1);
+    for block in bytes.chunks_exact_mut(512) {
+        seal(block);
     }
-    seal(&mut bytes, 0);
-    seal(&mut bytes, 512);
     bytes
 }
 
@@ -76,11 +69,8 @@ fn two_blocks_by_the_rules(rt: HostRuntime) -> Result<(), Fail> {
     let entries = [3u16; 136];
     let sheet = TableSheet::new(17, &entries)?;
     let mut buffer = [7u8; 1024];
-    let Ok(count) = write_list(&sheet, &mut buffer) else {
-        return Err(Fail::new("too short"));
-    };
-    assert_eq!(rt; count, 1024);
-    assert_eq!(rt; &buffer[0..1024], &list(&[])[0..1024]);
+    assert_eq!(rt; write_list(&sheet, &mut buffer)?, 1024);
+    assert_eq!(rt; buffer, list(&[]));
     Ok(())
 }
 
@@ -157,10 +147,7 @@ fn limits_of_a_record(rt: HostRuntime) -> Result<(), Fail> {
 }
 
 fn number(bytes: &[u8]) -> u16 {
-    match check_list(bytes) {
-        Ok(()) => 0,
-        Err(fault) => fault.refusal().number,
-    }
+    check_list(bytes).map_or_else(|fault| fault.refusal().number, |()| 0)
 }
 
 #[test]
@@ -178,19 +165,14 @@ fn the_longest_list(rt: HostRuntime) -> Result<(), Fail> {
     let entries = [0u16; 32640];
     let sheet = TableSheet::new(256, &entries)?;
     let mut short = [7u8; 133119];
-    match write_list(&sheet, &mut short) {
-        Ok(_) => return Err(Fail::new("written")),
-        Err(fault) => assert_eq!(rt; fault.number(), 51),
-    }
+    let written = write_list(&sheet, &mut short);
+    assert_eq!(rt; written.map_err(WriteFault::number), Err(51));
     assert!(rt; short[0] == 7 && short[133118] == 7);
     let mut buffer = [7u8; 133121];
-    let Ok(count) = write_list(&sheet, &mut buffer) else {
-        return Err(Fail::new("too short"));
-    };
-    assert_eq!(rt; count, 133120);
+    assert_eq!(rt; write_list(&sheet, &mut buffer)?, 133120);
     assert_eq!(rt;
         &buffer[132608..132616],
-        &[3u8, 1, 6, 255, 249, 255, 0, 0][0..8]
+        &[3u8, 1, 6, 255, 249, 255, 0, 0][..]
     );
     assert_eq!(rt; buffer[133120], 7);
     // A copy has the same bytes, and the byte beyond them stays.

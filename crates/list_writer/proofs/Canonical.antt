@@ -3,6 +3,7 @@ use Rattle.std.proofs.Common.{◌≡◌, ℕ, zero, suc, ◌+◌, ◌-◌, ◌*�
 use Rattle.std.specs.List.{flat_map, AllByRecursion}
 use Rattle.std.proofs.ByRecursion.{All-drop, All-map, All-take}
 use Rattle.std.proofs.lemmas.List.{drop-drop, drop-map, length-drop, length-map, length-take, take_all, take-append-drop, take-map}
+use Rattle.std.proofs.lemmas.List.Folds.{flat_map-map}
 use Rattle.std.proofs.lemmas.Bool.{and_parts, cases_lt, eqb-true}
 use Rattle.std.proofs.lemmas.Bool.Decides.{nat_tests}
 use Rattle.candidates.specs.Sets.{counting}
@@ -11,7 +12,7 @@ use Rattle.blocks.specs.Bytes.{low_first, number, part, all_zero, Bytes}
 use Rattle.blocks.specs.Format.{Record, block, block_at, block_count, blocks_for, check, content, packed, record_at, record_bytes, record_count, record_in, records_of, sealed, size_of}
 use Rattle.blocks.proofs.Accepted.{Accepted, BlockRight, block-right, record-right}
 use Rattle.blocks.proofs.Numbers.{low_first-number}
-use Rattle.list_writer.proofs.Chunks.{get_d_part, joined-map, joined-parts, joined_same, key-part, points-part, record-part}
+use Rattle.list_writer.proofs.Chunks.{get_d_part, joined-parts, joined_same, key-part, points-part, record-part}
 use Rattle.list_writer.proofs.Ordered.{Ordered, Right, rise-map}
 use Rattle.list_writer.proofs.Sizes.{check-append}
 
@@ -90,7 +91,7 @@ module _ (bs : List ℕ) (place count : ℕ) (all : Bytes bs) (long : length bs 
 
   records-again : flat_map record_bytes readings ≡ take (4 * count) (drop 4 bs)
   records-again =
-      joined-map record_bytes (record_in bs) (counting 0 count) ∙ (joined_same (λ i. record_bytes (record_in bs i)) (λ i. part 4 (4 * i) (drop 4 bs)) 0 count (λ i _ inside. record-again i (omega arith)) ∙ joined-parts 4 (drop 4 bs) 0 count)
+      flat_map-map record_bytes (record_in bs) (counting 0 count) ∙ (joined_same (λ i. record_bytes (record_in bs i)) (λ i. part 4 (4 * i) (drop 4 bs)) 0 count (λ i _ inside. record-again i (omega arith)) ∙ joined-parts 4 (drop 4 bs) 0 count)
 
   module _ (empty : all_zero (part (508 - (4 + 4 * count)) (4 + 4 * count) bs) ≡ true) where
     zeros-again : replicate (504 - 4 * count) 0 ≡ take (504 - 4 * count) (drop (4 * count) (drop 4 bs))

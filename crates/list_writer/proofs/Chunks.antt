@@ -30,10 +30,6 @@ joined_same f g a zero each = refl
 joined_same f g a (suc n) each =
     ap₂ ◌++◌ (each a (omega arith) (omega arith)) (joined_same f g (suc a) n (λ i low high. each i (omega arith) (omega arith)))
 
-pub joined-map : {X : Type 0} (f : X → List ℕ) (g : ℕ → X) (ks : List ℕ) → flat_map f (map g ks) ≡ flat_map (λ k. f (g k)) ks
-joined-map f g [] = refl
-joined-map f g (k ∷ ks) = ap (λ zs. f (g k) ++ zs) (joined-map f g ks)
-
 -- a list by its places
 pub map-counting : {X : Type 0} (f : ℕ → X) (d : X) (xs : List X) (a : ℕ) → ((i : ℕ) → i < length xs → f (a + i) ≡ get_or xs i d) → map f (counting a (length xs)) ≡ xs
 map-counting f d [] a each = refl

@@ -1,9 +1,16 @@
 -- The records of a sheet from a key on, one at a time.
-use Rattle.std.proofs.Common.{◌≡◌, ℕ, zero, suc, ◌+◌, ◌-◌, ◌*◌, ◌<◌, ◌≤◌, true, false, [], ◌∷◌, Some, None, Option, MatchOption, refl, ap, ◌∙◌, ⊎_elim, arith}
+use Rattle.std.proofs.Common.{◌≡◌, ℕ, zero, suc, ◌+◌, ◌-◌, ◌*◌, ◌<◌, ◌≤◌, true, false, [], ◌∷◌, Some, None, Option, MatchOption, refl, ap, ◌∙◌, ⊎_elim, arith, length, sym, filter}
+use Rattle.std.specs.List.{range_with_len}
 use Rattle.std.proofs.lemmas.Bool.{cases_lt}
+use Rattle.std.proofs.lemmas.List.{length-map}
+use Rattle.candidates.specs.Sets.{counting}
 use Rattle.sheets.specs.Meaning.{Meaning}
-use Rattle.blocks.specs.Format.{has_record, record_of, records_from}
+use Rattle.blocks.specs.Format.{has_record, record_of, records, records_from}
 use Rattle.blocks.proofs.Sums.{counting_more}
+
+range-counting : (a n : ℕ) → range_with_len a n ≡ counting a n
+range-counting a zero = refl
+range-counting a (suc n) = let next : a + 1 ≡ suc a = omega arith in rw next (ap (λ ks. a ∷ ks) (range-counting (suc a) n))
 
 module _ (m : Meaning) where
   records_from-yes : (key : ℕ) → key < 256 * m.size → has_record m key ≡ true → records_from m key ≡ record_of m key ∷ records_from m (key + 1)
@@ -40,3 +47,9 @@ module _ (m : Meaning) where
   records_from-first size from (Some i) all first =
       let there : from + (i - from) ≡ i = omega (arith, first.0) in
       records_from-past from (i - from) (omega (arith, first.1)) (λ k low high. first.3 k low (omega arith)) ∙ (ap (records_from m) there ∙ records_from-yes i (omega (arith, first.1)) first.2)
+
+  pub length-records : (size : ℕ) → size ≡ m.size → length (filter (has_record m) (range_with_len 0 (256 * size))) ≡ length (records m)
+  unfolding records_from
+  length-records size all =
+      let whole : 256 * size ≡ 256 * m.size - 0 = omega arith in
+      ap (λ ks. length (filter (has_record m) ks)) (range-counting 0 (256 * size) ∙ ap (counting 0) whole) ∙ sym (length-map (filter (has_record m) (counting 0 (256 * m.size - 0))) (record_of m))

@@ -2,6 +2,7 @@
 use Rattle.std.proofs.Common.{◌≡◌, ℕ, zero, suc, ◌+◌, ◌/◌, ◌%◌, ◌<◌, ◌≤◌, eqb, List, [], ◌∷◌, map, length, get_or, Some, None, sym, refl, ap, ◌∙◌, subst, ap₂, ⊎_elim, arith}
 use Rattle.std.specs.List.{AllByRecursion}
 use Rattle.std.proofs.lemmas.Bool.{cases_eq, cases_order, cond-true, cond-false, eq-eqb, ne_eqb}
+use Rattle.std.proofs.lemmas.Option.{same_Some}
 use Rattle.candidates.specs.Sets.{counting}
 use Rattle.blocks.specs.Format.{Record, look}
 
@@ -52,9 +53,6 @@ look-other key r rs apart = cond-false (eqb r.key key) (Some r.points) (look key
 some-none : {X : Type 0} (x : X) → Some x ≡ None → ⊥
 some-none x e = let z : ◌≡◌ {A = ℕ} 0 1 = cc in omega arith
 
-some_same : (p q : ℕ) → Some p ≡ Some q → p ≡ q
-some_same p q e = cc
-
 -- records in order are settled by what is found among them
 pub same-from-look : (a : ℕ) (xs ys : List Record) → Rise a xs → Rise a ys → ((key : ℕ) → look key xs ≡ look key ys) → xs ≡ ys
 unfolding look
@@ -65,7 +63,7 @@ same-from-look a (x ∷ xs) (y ∷ ys) up also same =
     ⊎_elim
     (λ (equal : x.key ≡ y.key).
     let there : look x.key (y ∷ ys) ≡ Some y.points = ap (λ k. look k (y ∷ ys)) equal ∙ look-first y ys in
-    let points : x.points ≡ y.points = some_same x.points y.points (sym (look-first x xs) ∙ (same x.key ∙ there)) in
+    let points : x.points ≡ y.points = same_Some x.points y.points (sym (look-first x xs) ∙ (same x.key ∙ there)) in
     let first : x ≡ y = ap₂ (λ k p. record { key = k; points = p }) equal points in
     ap₂ ◌∷◌ first (same-from-look (suc x.key) xs ys up.1 (rise-later (suc y.key) (suc x.key) ys (omega arith) also.1) (λ key.
     ⊎_elim
@@ -84,7 +82,7 @@ look-right n key p [] all found = absurd (some-none p (sym found))
 look-right n key p (r ∷ rs) all found =
     ⊎_elim
     (λ (here : r.key ≡ key).
-    let points : r.points ≡ p = some_same r.points p (sym (look-first r rs) ∙ (ap (λ k. look k (r ∷ rs)) here ∙ found)) in
+    let points : r.points ≡ p = same_Some r.points p (sym (look-first r rs) ∙ (ap (λ k. look k (r ∷ rs)) here ∙ found)) in
     subst (Right n) (ap₂ (λ k q. record { key = k; points = q }) here points) all.0)
     (λ (apart : r.key ≡ key → ⊥). look-right n key p rs all.1 (sym (look-other key r rs apart) ∙ found))
     (cases_eq r.key key)

@@ -1,5 +1,5 @@
 // The records of a sheet, in the order of their keys.
-ghost use Rattle.std.specs.Prelude.{◌≡◌, ◌+◌, ◌<◌, [], ◌∷◌, IfSome, MatchOption};
+ghost use Rattle.std.specs.Prelude.{◌≡◌, ◌+◌, ◌<◌, [], ◌∷◌, IfSome, MatchOption, length};
 ghost use Rattle.std.specs.Iterator.{YieldsFirstBy, item_count};
 ghost use Rattle.blocks.specs.Format.{has_record, record_bytes, record_of, records, records_from};
 ghost use Rattle.list_writer.specs.Records.{record_meant, to_come};
@@ -14,6 +14,7 @@ pub(crate) struct Record {
 }
 
 impl Record {
+    #[tactic(auto, unfolding(blocks::specs::Bytes::low_first, blocks::specs::Format::record_bytes))]
     pub(crate) fn to_bytes(self) -> [u8; 4]
         ensures { result ≡ record_bytes (record_meant self) }
     {
@@ -24,12 +25,22 @@ impl Record {
 }
 
 // Whether the pair of a key has a record.
+#[tactic(auto, unfolding(blocks::specs::Format::has_record))]
 fn has_record<S: Sheet>(sheet: &S, key: usize) -> bool
     ensures { result ≡ has_record (S.Sheet.meaning sheet.now) key }
 {
     let u = key % 256;
     let v = key / 256;
     u < v && sheet.fits(u, v)
+}
+
+// How many records there are.
+pub(crate) fn count_records<S: Sheet>(sheet: &S) -> usize
+    ensures { result ≡ length (records (S.Sheet.meaning sheet.now)) }
+{
+    (0..256 * sheet.size())
+        .filter(|key| has_record(sheet, *key))
+        .count()
 }
 
 // The first key from the given one on that has a record.
@@ -62,6 +73,7 @@ impl<'a, S: Sheet> Iterator for Records<'a, S> {
 
     ghost remaining = { item_count (to_come S.Sheet.meaning) };
 
+    #[tactic(auto, unfolding(blocks::specs::Format::record_of))]
     fn next(&mut self) -> Option<Record> {
         let key = next_key(self.sheet, self.next)?;
         let points = self.sheet.points(key % 256, key / 256);

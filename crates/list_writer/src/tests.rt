@@ -53,6 +53,7 @@ fn two_blocks(rt: HostRuntime) -> Result<(), Fail> {
     assert_eq!(rt; count, 1024);
     assert_eq!(rt; &copied[0..1024], &buffer[0..1024]);
     // The first pair of the last block is now the last of the block before it.
+    // By index: after a write to a part no proof finds the bounds below.
     copied[516] = buffer[504];
     copied[517] = buffer[505];
     let [low, high, ..] = check_of(&copied[512..]).to_le_bytes();

@@ -7,7 +7,7 @@ ghost use Rattle.list_writer.specs.Rounds.{RoundTrip};
 ghost use Rattle.list_writer.specs.Worked.{WorkedLists};
 
 use crate::faults::WriteFault;
-use crate::records::Records;
+use crate::records::{Records, count_records};
 use blocks::checks::check_of;
 use sheets::sheet::Sheet;
 
@@ -19,6 +19,7 @@ fn next_block<S: Sheet>(place: u16, low: u8, records: &mut Records<'_, S>) -> [u
     let mut block = [0; 512];
     block[..2].copy_from_slice(&place.to_le_bytes());
     block[3] = low;
+    // Of `records.take(126)` no proof would know what the walk has left afterwards.
     for i in 0..126 {
         let Some(record) = records.next() else { break };
         block[2] += 1;
@@ -34,7 +35,7 @@ fn block_count<S: Sheet>(sheet: &S) -> usize
     ensures value { result ≡ blocks_for (length (records (S.Sheet.meaning sheet.now))) }
     ensures bound { result ≤ 260 }
 {
-    Records::of(sheet).count().div_ceil(126).max(1)
+    count_records(sheet).div_ceil(126).max(1)
 }
 
 // Writes the list of a sheet, in as few blocks as possible.
@@ -52,6 +53,7 @@ pub fn write_list<S: Sheet>(sheet: &S, buffer: &mut [u8]) -> Result<usize, Write
     let mut records = Records::of(sheet);
     for place in 0..blocks {
         let block = next_block(place as u16, low, &mut records);
+        // By place: after `chunks_exact_mut` no proof knows the bytes.
         buffer[512 * place..512 * place + 512].copy_from_slice(&block);
     }
     Ok(512 * blocks)
