@@ -47,10 +47,7 @@ holding p = record { set = members p.set; weight = p.points }
 -- what an answer says is held
 abbrev pub told : Answer → Option Held
 told (Holding count weight buffer) = Some (record { set = collected [] (take count buffer); weight = weight })
-told (Granted nodes finished) = None
-told (Taken taken) = None
-told (Ceiling ceiling) = None
-told (Refused refusal) = None
+told _ = None
 
 -- after all answers
 abbrev pub summary : Summary → List Answer → Summary

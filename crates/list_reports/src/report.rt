@@ -35,6 +35,7 @@ impl fmt::Display for Report {
 
     fn fmt<W: fmt::Write>(&self, f: &mut fmt::Formatter<W>) -> fmt::Result {
         let candidates = self.candidates;
+        // The lines of `Found` speak of the search; here what it found is the pairing.
         let set = Listed(self.found.pairing.set);
         let points = self.found.pairing.points;
         let ceiling = self.found.ceiling;

@@ -35,7 +35,7 @@ fn step(
             close(numbers, begun)?;
             Ok(None)
         }
-        b'0'..=b'9' => Ok(Some(extend(begun, place, byte)?)),
+        b'0'..=b'9' => extend(begun, place, byte).map(Some),
         _ => Err(TextFault::Byte { place }),
     }
 }

@@ -4,14 +4,11 @@ use candidates::set::CandidateSet;
 use std::alloc::{AllocError, Global};
 
 // A made entry: apart in this many of a hundred cases, else points below the limit, or 0 where none is set.
-fn made_entry(random: &mut Random, apart: usize, limit: Option<u16>) -> u16 {
+fn made_entry(random: &mut Random, apart: u16, limit: Option<u16>) -> u16 {
     if random.below(100) < apart {
         return 65535;
     }
-    match limit {
-        Some(limit) => random.below(usize::from(limit)) as u16,
-        None => 0,
-    }
+    limit.map_or(0, |limit| random.below(limit))
 }
 
 pub(crate) fn made_entries(

@@ -16,10 +16,10 @@ impl Random {
     }
 
     // A number below n, and 0 where n is 0.
-    pub(crate) fn below(&mut self, n: usize) -> usize
+    pub(crate) fn below(&mut self, n: u16) -> u16
         ensures { result ≤ n - 1 }
     {
-        let x = (self.next() >> 32) as usize;
-        x.checked_rem(n).unwrap_or(0)
+        let x = self.next() >> 32;
+        x.checked_rem(u64::from(n)).unwrap_or(0) as u16
     }
 }

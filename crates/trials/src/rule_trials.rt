@@ -49,7 +49,7 @@ impl Tally {
         let mut random = Random(88172645463325252);
         let mut tally = Tally::default();
         for _ in 0..4000 {
-            let n = 1 + random.below(10);
+            let n = 1 + usize::from(random.below(10));
             let entries = made_entries(heap, &mut random, n)?;
             if let Ok(sheet) = TableSheet::new(n, entries.as_slice()) {
                 let c = made_set(&mut random);

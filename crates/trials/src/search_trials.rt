@@ -62,7 +62,7 @@ impl Run {
         let mut run = Run::default();
         for _ in 0..random.below(8) {
             if random.below(2) == 0 {
-                run.grant(search, random.below(20) as u64);
+                run.grant(search, u64::from(random.below(20)));
             } else if offer_made(heap, random, search)? {
                 run.best_taken |= held_by(search).is_some_and(|held| held.points == best);
             }
@@ -105,9 +105,9 @@ impl Searches {
         let mut all = Searches::default();
         for _ in 0..1500 {
             let n = if random.below(100) == 0 {
-                13 + random.below(6)
+                13 + usize::from(random.below(6))
             } else {
-                1 + random.below(12)
+                1 + usize::from(random.below(12))
             };
             let entries = made_entries(heap, &mut random, n)?;
             if let Ok(sheet) = TableSheet::new(n, entries.as_slice()) {
