@@ -6,7 +6,7 @@ use Rattle.candidates.specs.Sets.{counting}
 use Rattle.candidates.proofs.Sets.{counting-append}
 use Rattle.blocks.specs.Format.{Record, look}
 use Rattle.blocks.proofs.Sums.{counting_more}
-use Rattle.list_reader.specs.Sheets.{halving, told}
+use Rattle.list_reader.specs.Halving.{halving, told}
 
 -- the place in the middle
 abbrev pub middle_of : ℕ → ℕ → ℕ

@@ -4,9 +4,7 @@ use Rattle.std.proofs.Common.{ap}
 use native.Mathlib.Omega.{arith}
 use Rattle.std.proofs.lemmas.Bool.{true≢false, and_left, and_right, le-ltb, ltb-true, cond-false, cond_both}
 use Rattle.sheets.specs.Meaning.{Lawful}
-use Rattle.blocks.specs.Format.{known, fair, or_zero, sheet_by, size_of}
-use Rattle.list_reader.specs.declared.sheet.ListSheet.{ListSheet}
-use Rattle.list_reader.specs.Sheets.{found, sheet_of}
+use Rattle.blocks.specs.Format.{known, fair, or_zero, sheet_by}
 
 fair-limit : (o : Option ℕ) → or_zero (fair o) ≤ 65534
 fair-limit None = omega arith
@@ -51,6 +49,3 @@ module _ (n : ℕ) (points : ℕ → Option ℕ) where
     outside = λ u v past. ap is_some (known-outside u v past);
     highest = known-limit;
   }
-
-pub list_lawful : (s : ListSheet) → Lawful (sheet_of s)
-list_lawful s = sheet_by-lawful (min 256 (size_of s.records.bytes.now)) (found s.records.bytes.now) (omega arith) (omega arith)

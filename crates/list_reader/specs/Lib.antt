@@ -1,2 +1,3 @@
-pub mod Sheets
+pub mod Halving
 pub mod Laws
+pub mod Sheets

@@ -1,23 +1,14 @@
--- A list sheet answers from the bytes of a list and looks a pair up by halving.
-use Rattle.std.specs.Prelude.{ℕ, zero, suc, ◌+◌, ◌-◌, ◌/◌, min, cond, List, Some, None, Option, ◌==◌, nat_lt}
-use Rattle.sheets.specs.Meaning.{Meaning}
-use Rattle.blocks.specs.Format.{Record, record_at, record_count, size_of, sheet_by}
+-- What a list sheet means.
+use Rattle.std.proofs.Common.{arith}
+use Rattle.sheets.specs.Meaning.{Lawful, Meaning}
+use Rattle.blocks.specs.Format.{look, meaning_of, records_of, size_of}
+use Rattle.list_reader.specs.Laws.{sheet_by-lawful}
 use Rattle.list_reader.specs.declared.sheet.ListSheet.{ListSheet}
 
--- the record in the middle has the key, or tells in which half it is
-abbrev pub told : Record → ℕ → Option ℕ → Option ℕ → Option ℕ
-told r key below above = cond (r.key == key) (Some r.points) (cond (nat_lt r.key key) above below)
-
--- the points in the record with a key, looked for from low up to high by halving, in so many turns at most
-unfoldable pub halving : (ℕ → Record) → ℕ → ℕ → ℕ → ℕ → Option ℕ
-halving at key zero low high = None
-halving at key (suc turns) low high =
-    let middle : ℕ = low + (high - low) / 2 in
-    cond (nat_lt low high) (told (at middle) key (halving at key turns low middle) (halving at key turns (middle + 1) high)) None
-
-unfoldable pub found : List ℕ → ℕ → Option ℕ
-found bytes key = halving (record_at bytes) key (record_count bytes) 0 (record_count bytes)
-
--- What a list sheet means. Of bytes that make an accepted list this is the sheet that they hold.
+-- what its bytes hold
 abbrev pub sheet_of : ListSheet → Meaning
-sheet_of s = sheet_by (min 256 (size_of s.records.bytes.now)) (found s.records.bytes.now)
+sheet_of s = meaning_of s.records.bytes.now
+
+pub list_lawful : (s : ListSheet) → Lawful (sheet_of s)
+unfolding meaning_of
+list_lawful s = sheet_by-lawful (size_of s.records.bytes.now) (λ key. look key (records_of s.records.bytes.now)) (omega arith) s.small

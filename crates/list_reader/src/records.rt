@@ -1,7 +1,7 @@
 // The records of a list, by their places in it: every block but the last has 126. What lies past the end is 0.
 ghost use Rattle.std.specs.Prelude.{◌≡◌, ◌+◌, ◌-◌, ◌*◌, ◌/◌, ◌%◌, ◌^◌, min};
 ghost use Rattle.blocks.specs.Format.{record_at, record_count};
-ghost use Rattle.list_reader.specs.Sheets.{found};
+ghost use Rattle.list_reader.specs.Halving.{found};
 
 use blocks::bytes::{byte_at, u16_at};
 

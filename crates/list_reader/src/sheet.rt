@@ -1,9 +1,7 @@
 // A sheet that answers from the bytes of a block list.
-ghost use Rattle.std.specs.Prelude.{◌≡◌, min, Ok, Err};
-ghost use Rattle.blocks.specs.Format.{fair as fair_of, known, meaning_of, size_of};
+ghost use Rattle.std.specs.Prelude.{◌≡◌, ◌≤◌, Ok, Err};
+ghost use Rattle.blocks.specs.Format.{known, look, meaning_of, records_of, size_of};
 ghost use Rattle.blocks.specs.Questions.{judged, program_judged};
-ghost use Rattle.list_reader.specs.Laws.{list_lawful};
-ghost use Rattle.list_reader.specs.Sheets.{found, sheet_of};
 
 use crate::asking::check_list;
 use crate::records::Records;
@@ -14,16 +12,13 @@ use sheets::sheet::{Points, Sheet};
 #[derive(Clone, Copy)]
 pub struct ListSheet<'a> {
     records: Records<'a>,
-}
-
-// Points that two that fit may have.
-fn fair(points: Option<u16>) -> Option<u16>
-    ensures { result ≡ fair_of points }
-{
-    points.filter(|points| *points < 65535)
+    ghost accepted: { judged records.bytes.now ≡ Ok tt },
+    ghost small: { size_of records.bytes.now ≤ 256 },
 }
 
 impl<'a> ListSheet<'a> {
+    ghost use Rattle.list_reader.specs.Sheets.{sheet_of};
+
     // The sheet that the bytes hold.
     pub fn new(bytes: &'a [u8]) -> Result<ListSheet<'a>, ListFault>
         ensures { elim result [ Ok s ↦ (judged bytes.now ≡ Ok tt) × (sheet_of s ≡ meaning_of bytes.now) | Err e ↦ judged bytes.now ≡ Err e ] }
@@ -36,18 +31,20 @@ impl<'a> ListSheet<'a> {
 
     // The points of two that fit.
     fn points_of(&self, u: usize, v: usize) -> Option<u16>
-        ensures { result ≡ known (min 256 (size_of self.now.records.bytes.now)) (found self.now.records.bytes.now) u v }
+        ensures { result ≡ known (size_of self.now.records.bytes.now) (λ key. look key (records_of self.now.records.bytes.now)) u v }
     {
         let low = u.min(v);
         let high = u.max(v);
         if low >= high || high >= self.size() {
             return None;
         }
-        fair(self.records.find(low + 256 * high))
+        self.records.find(low + 256 * high)
     }
 }
 
 impl Sheet for ListSheet<'_> {
+    ghost use Rattle.list_reader.specs.Sheets.{list_lawful, sheet_of};
+
     ghost meaning = { sheet_of };
 
     ghost lawful = { list_lawful };
@@ -67,7 +64,7 @@ impl Sheet for ListSheet<'_> {
 
 // What a program is given: at most 65,536 bytes, and a list.
 pub fn read_input(bytes: &[u8]) -> Result<ListSheet<'_>, ProgramFault>
-    ensures { elim result [ Ok s ↦ (program_judged bytes.now ≡ Ok tt) × (sheet_of s ≡ meaning_of bytes.now) | Err e ↦ program_judged bytes.now ≡ Err e ] }
+    ensures { elim result [ Ok s ↦ (program_judged bytes.now ≡ Ok tt) × (meaning_of s.records.bytes.now ≡ meaning_of bytes.now) | Err e ↦ program_judged bytes.now ≡ Err e ] }
 {
     if bytes.len() > 65536 {
         return Err(ProgramFault::Long);

@@ -1,6 +1,6 @@
 use Rattle.std.proofs.Common.{◌≡◌, ◌-◌, ◌<◌, Some, sym, ap, ◌∙◌, arith}
 use Rattle.blocks.specs.Format.{record_at, record_count}
-use Rattle.list_reader.specs.Sheets.{halving, found}
+use Rattle.list_reader.specs.Halving.{halving, found}
 use Rattle.list_reader.proofs.Halving.{middle_of, halving-here, halving-above, halving-below, halving-none}
 use Rattle.list_reader.proofs.records.Records.find.Goals as goal
 

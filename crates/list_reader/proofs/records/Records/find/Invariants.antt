@@ -1,6 +1,6 @@
 use Rattle.std.proofs.Common.{◌≡◌, ◌-◌}
 use Rattle.blocks.specs.Format.{record_at}
-use Rattle.list_reader.specs.Sheets.{halving, found}
+use Rattle.list_reader.specs.Halving.{halving, found}
 use Rattle.list_reader.proofs.records.Records.find.Given as goal
 
 abbrev pub invariant-loop-low : goal.invariant-loop-low

@@ -1,0 +1,7 @@
+use Rattle.std.proofs.Common.{rules}
+use Rattle.blocks.specs.Format.{meaning_of}
+use Rattle.list_reader.proofs.sheet.ListSheetSheet.fits.Goals as goal
+
+pub returns : goal.returns
+unfolding meaning_of
+returns c = search rules
