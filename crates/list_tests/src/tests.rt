@@ -146,17 +146,18 @@ fn limits_of_a_record(rt: HostRuntime) -> Result<(), Fail> {
     Ok(())
 }
 
-fn number(bytes: &[u8]) -> u16 {
-    check_list(bytes).map_or_else(|fault| fault.refusal().number, |()| 0)
+// Accepted, or refused with a number.
+fn judged(bytes: &[u8]) -> Result<(), u16> {
+    check_list(bytes).map_err(|fault| fault.refusal().number)
 }
 
 #[test]
 fn lengths_of_a_list(rt: HostRuntime) {
     let bytes = [0u8; 133632];
-    assert_eq!(rt; number(&bytes[0..511]), 11);
-    assert_eq!(rt; number(&bytes[0..512]), 0);
-    assert_eq!(rt; number(&bytes[0..133120]), 15);
-    assert_eq!(rt; number(&bytes[0..133632]), 11);
+    assert_eq!(rt; judged(&bytes[0..511]), Err(11));
+    assert_eq!(rt; judged(&bytes[0..512]), Ok(()));
+    assert_eq!(rt; judged(&bytes[0..133120]), Err(15));
+    assert_eq!(rt; judged(&bytes[0..133632]), Err(11));
 }
 
 // With 256 candidates that all fit there are 32,640 records: 259 full blocks, and 6 records in the last.
