@@ -166,19 +166,18 @@ has-taken s v w four h e =
     ∙ ap (λ m. bit (word s (v / 64)) j && m) (bit-complement 64 (2 ^ (v % 64)) j (pow-lt {i = v % 64} {j = 64} (omega arith)) l ∙ ap not (bit-power (v % 64) j)))
     and-true
 
-pub has_same : (s : CandidateSet) (v : ℕ) → 256 ≤ v → (k : ℕ) → has s k ≡ (has s k || (eqb k v && ltb k 256))
-has_same s v h k = grind (arith, nat_tests)
-
 pub has-still : (s : CandidateSet) (v : ℕ) → 256 ≤ v → (k : ℕ) → has s k ≡ (has s k && not (eqb k v))
 has-still s v h k = let out = has-outside s k in grind (arith, nat_tests)
 
 -- ---- no member
 
-pub nothing-from-marks : (s : CandidateSet) → ((k : ℕ) → k < 256 → has s k ≡ false) → members s ≡ []
-nothing-from-marks s out = members-by s [] tt (λ k. ⊎_elim (out k) (has-outside s k) (cases_lt k 256))
-
 pub nothing-from-words : (s : CandidateSet) → ((q : ℕ) → q < 4 → word s q ≡ 0) → members s ≡ []
-nothing-from-words s zeros = nothing-from-marks s (λ k h. has-inside s k h ∙ ap (λ w. bit w (k % 64)) (zeros (k / 64) (omega arith)) ∙ bit-none (k % 64))
+nothing-from-words s zeros =
+    members-by s [] tt
+    (λ k. ⊎_elim
+    (λ h. has-inside s k h ∙ ap (λ w. bit w (k % 64)) (zeros (k / 64) (omega arith)) ∙ bit-none (k % 64))
+    (has-outside s k)
+    (cases_lt k 256))
 
 -- ---- the lowest member
 

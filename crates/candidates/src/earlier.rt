@@ -11,6 +11,7 @@ impl CandidateSet {
         ensures value { Decides result (Earlier (members self) (members other)) }
         ensures order { StrictTotal }
     {
+        // a match, as it shows all three cases; a chain of options would hide one
         match (self.minus(other).lowest(), other.minus(self).lowest()) {
             (Some(mine), Some(theirs)) => mine < theirs,
             (Some(_), None) => true,

@@ -15,6 +15,7 @@ impl CandidateSet {
         if count > buffer.len() {
             return None;
         }
+        // by place: what was written through a lent slot is not known once the borrow is over
         for (place, v) in self.iter().enumerate() {
             buffer[place] = v;
         }

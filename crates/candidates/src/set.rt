@@ -67,7 +67,7 @@ impl CandidateSet {
         self
     }
 
-    // Those in both.
+    // Those in both. Here and in minus the words are taken apart: a closure over places reads no plainer.
     pub fn meet(self, other: CandidateSet) -> Self
         ensures marks { (k : ℕ) → has result k ≡ (has self k && has other k) }
         ensures list { members result ≡ common (members self) (members other) }
@@ -130,7 +130,7 @@ impl PartialEq for CandidateSet {
         ensures list { Decides result (members self.now ≡ members other.now) }
         ensures same { Decides result (self.now ≡ other.now) }
     {
-        // word by word: the members are equal only because each word is below 2 ^ 64, which reading it tells
+        // a derived equality would be of words, and the promise is of members; each word is read, as only that tells its range
         let [a, b, c, d] = self.words;
         let [p, q, r, s] = other.words;
         (a == p) & (b == q) & (c == r) & (d == s)

@@ -1,10 +1,10 @@
-use Rattle.candidates.proofs.Bits.{bit-none}
-use Rattle.candidates.proofs.Marks.{has-by, each-four, members-by}
-use Rattle.candidates.specs.Members.{bit, has}
-use Rattle.std.proofs.Common.{◌≡◌, ℕ, false, [], ◌∷◌, get_or, refl}
+use Rattle.std.proofs.Common.{◌≡◌, [], ◌∷◌, get_or, sym, refl, ap, ◌∙◌}
+use Rattle.candidates.specs.Sets.{is_in}
+use Rattle.candidates.proofs.Marks.{nothing-from-words, each-four, is_in-members}
 use Rattle.candidates.proofs.set.CandidateSet.empty.Goals as goal
 
-pub returns : goal.returns
-returns c =
-    let marks : (k : ℕ) → has _ k ≡ false = has-by _ (λ _. false) (λ q j h l. each-four (λ q. bit (get_or (0 ∷ 0 ∷ 0 ∷ 0 ∷ []) q 0) j ≡ false) (bit-none j) (bit-none j) (bit-none j) (bit-none j) q h) (λ k h. refl) in
-    record { marks = marks; list = members-by _ [] tt marks }
+pub returns-clause-list : goal.returns-clause-list
+returns-clause-list c = nothing-from-words _ (each-four (λ q. get_or (0 ∷ 0 ∷ 0 ∷ 0 ∷ []) q 0 ≡ 0) refl refl refl refl)
+
+pub returns-clause-marks : goal.returns-clause-marks
+returns-clause-marks c = λ k. sym (is_in-members _ k) ∙ ap (is_in k) (returns-clause-list c)
