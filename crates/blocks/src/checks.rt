@@ -12,6 +12,7 @@ use crate::faults::BlockFault;
 pub fn check_of(block: &[u8]) -> usize
     ensures { result ≡ check block.now }
 {
+    // No `map` and `sum`: nothing is known of a closure whose product might not fit.
     let mut sum = 0;
     for (i, byte) in block.iter().take(508).enumerate() {
         sum += (i + 1) * usize::from(*byte);

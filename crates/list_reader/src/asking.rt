@@ -55,6 +55,7 @@ pub fn check_list(bytes: &[u8]) -> Result<(), ListFault>
     for (place, block) in bytes.chunks_exact(512).enumerate() {
         records.check_block(place, block)?;
     }
+    // By place: no slice holds the records, 126 to a block.
     for j in 0..records.count() {
         records.check_record(j)?;
     }
