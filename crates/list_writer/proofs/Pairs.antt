@@ -1,10 +1,10 @@
 -- A sheet has at most 32,640 pairs, so that its list is never too long.
-use Rattle.std.proofs.Common.{◌≡◌, ℕ, ◌+◌, ◌-◌, ◌*◌, ◌/◌, ◌%◌, ◌≤◌, Bool, true, cond, ltb, List, [], ◌∷◌, length, filter, sym, refl, ap, ◌∙◌, arith}
+use Rattle.std.proofs.Common.{◌≡◌, ℕ, ◌+◌, ◌-◌, ◌*◌, ◌/◌, ◌%◌, ◌≤◌, Bool, true, ltb, List, length, filter, sym, refl, ap, ◌∙◌, arith}
 use Rattle.std.proofs.lemmas.List.Elements.{filter-append}
 use Rattle.std.proofs.lemmas.List.{length-append, length-map}
-use Rattle.std.proofs.lemmas.Bool.{and_parts, cond_both, cond-true}
-use Rattle.candidates.specs.Sets.{counting}
-use Rattle.candidates.proofs.Sets.{counting-append}
+use Rattle.std.proofs.lemmas.Bool.{and_parts}
+use Rattle.candidates.specs.Sets.{counting, is_in}
+use Rattle.candidates.proofs.Sets.{counting-append, is_in-kept-by, kept-by-sub, length-sub, sub-kept-by}
 use Rattle.sheets.specs.Meaning.{Meaning}
 use Rattle.blocks.specs.Format.{has_record, record_of, records, records_from}
 
@@ -29,14 +29,8 @@ pairs_below-le a b less =
 
 -- a stricter test keeps fewer
 length-kept-le : (p q : ℕ → Bool) → ((k : ℕ) → p k ≡ true → q k ≡ true) → (ks : List ℕ) → length (filter p ks) ≤ length (filter q ks)
-length-kept-le p q stricter [] = omega arith
-length-kept-le p q stricter (k ∷ ks) =
-    let fewer : List ℕ = filter p ks in
-    let more : List ℕ = filter q ks in
-    let rest = length-kept-le p q stricter ks in
-    cond_both (p k) (k ∷ fewer) fewer (λ xs. length xs ≤ length (cond (q k) (k ∷ more) more))
-    (λ has. omega (arith, ap length (cond-true (q k) (k ∷ more) more (stricter k has)), rest))
-    (λ _. cond_both (q k) (k ∷ more) more (λ ys. length fewer ≤ length ys) (λ _. omega (arith, rest)) (λ _. rest))
+length-kept-le p q stricter ks =
+    length-sub (kept-by-sub q (sub-kept-by p ks) (λ k inside. stricter k (and_parts (p k) (is_in k ks) (sym (is_in-kept-by p k ks) ∙ inside)).0))
 
 pub records-few : (m : Meaning) → m.size ≤ 256 → length (records m) ≤ 32640
 unfolding records_from pairs_below is_pair has_record
