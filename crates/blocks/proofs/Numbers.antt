@@ -1,5 +1,5 @@
 -- Numbers in bytes: reading what was put, and putting what was read.
-use Rattle.std.proofs.Common.{◌≡◌, ℕ, zero, suc, ◌+◌, ◌*◌, ◌/◌, ◌%◌, ◌^◌, ◌<◌, List, [], ◌∷◌, length, get_or, take, replicate, refl, ap, add-zero, arith}
+use Rattle.std.proofs.Common.{◌≡◌, ℕ, zero, suc, ◌+◌, ◌*◌, ◌/◌, ◌%◌, ◌^◌, ◌<◌, List, [], ◌∷◌, length, get_or, take, refl, ap, add-zero, arith}
 use native.Mathlib.Nat.{pow-succ'}
 use Rattle.std.proofs.lemmas.List.{take_all}
 use Rattle.std.specs.Int.{byte_worth, sum_through}
@@ -56,8 +56,3 @@ low_first-number (b ∷ bs) all =
     let first : (b + 256 * number bs) % 256 ≡ b = omega (arith, all.0) in
     let rest : (b + 256 * number bs) / 256 ≡ number bs = omega (arith, all.0) in
     rw (first, rest) (ap (λ xs. b ∷ xs) (low_first-number bs all.1))
-
-pub low_first-zero : (w : ℕ) → low_first w 0 ≡ replicate w 0
-unfolding low_first
-low_first-zero zero = refl
-low_first-zero (suc w) = ap (λ xs. 0 ∷ xs) (low_first-zero w)
