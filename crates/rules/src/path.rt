@@ -29,7 +29,7 @@ fn length_of<S: Sheet>(
     rho(sheet, c, v) + rho(sheet, lower, v) + lengths.greatest(fitting)
 }
 
-// The greatest length of a member.
+// The greatest length of a member. A loop and no chain, since each length is noted for the higher members.
 fn longest<S: Sheet>(sheet: &S, c: CandidateSet, s: CandidateSet) -> u64
     requires { path_of (S.Sheet.meaning sheet.now) (members c) (members s) < 2 ^ 64 }
     ensures { result ≡ path_of (S.Sheet.meaning sheet.now) (members c) (members s) }
