@@ -17,7 +17,7 @@ fn array_at<const N: usize>(bytes: &[u8], place: usize) -> [u8; N]
     array::from_fn(move |k| byte_at(bytes, place.saturating_add(k)))
 }
 
-// The two bytes from a place on as a number, low byte first.
+// The two bytes from a place on as a number, low byte first. (Two functions, since no trait has `from_le_bytes`.)
 pub fn u16_at(bytes: &[u8], place: usize) -> u16
     ensures { result ≡ number (part 2 place bytes.now) }
 {

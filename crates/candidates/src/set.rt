@@ -97,7 +97,7 @@ impl CandidateSet {
         self.lowest().is_none()
     }
 
-    // The lowest member; an empty set has none.
+    // The lowest member; an empty set has none. (`as` here and below: `usize` has no `From<u32>`.)
     pub fn lowest(self) -> Option<usize>
         ensures { result ≡ least (members self) }
     {

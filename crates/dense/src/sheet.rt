@@ -6,7 +6,8 @@ use candidates::set::CandidateSet;
 
 pub mod answers;
 
-// Row u holds all that fit u; the points of u and v stand at 256 u + v.
+// Row u holds all that fit u; the points of u and v stand at 256 u + v. The arrays have a fixed size, so that no copy
+// can fail.
 #[derive(Drop)]
 pub struct DenseSheet {
     pub(crate) size: usize,

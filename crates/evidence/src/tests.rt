@@ -171,7 +171,7 @@ fn answers_as_table(rt: HostRuntime) -> Result<(), Fail> {
     let mut entries = [0; 15];
     write_entries(&sheet, &mut entries);
     let table = TableSheet::new(6, &entries)?;
-    // 6 is no candidate.
+    // All pairs by number, also with 6, which is no candidate.
     for u in 0..7 {
         for v in 0..7 {
             assert_eq!(rt; sheet.fits(u, v), table.fits(u, v));

@@ -1,4 +1,5 @@
-// A clique, and the candidates that may still be added to it.
+// A clique, and the candidates that may still be added to it. A type of its own: the measure of the search shares no code
+// with it.
 ghost use Rattle.exhaustive.specs.Branches.{Branched};
 
 use candidates::set::CandidateSet;

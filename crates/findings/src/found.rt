@@ -16,7 +16,7 @@ use sheets::pairing::Pairing;
 use sheets::sheet::Sheet;
 use std::fmt;
 
-// What is held, the ceiling, whether the search is finished, and the nodes that it took.
+// What is held, the ceiling, and what the grants answered together: whether the search is finished, and its nodes.
 #[derive(Clone, Copy)]
 pub struct Found {
     pub pairing: Pairing,
@@ -25,7 +25,8 @@ pub struct Found {
     pub nodes: u64,
 }
 
-// What a search holds, written into a buffer with room for any set.
+// What a search holds, as a set with its points. The search writes it into a lent buffer and answers a count; here the
+// buffer has room for any set.
 pub fn held_by<S: Sheet, R: Rule>(search: &Search<S, R>) -> Option<Pairing>
     ensures { option_map holding result ≡ told (written (state_of search.now).held (replicate 256 0)) }
 {

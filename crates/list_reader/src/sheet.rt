@@ -62,7 +62,8 @@ impl Sheet for ListSheet<'_> {
     }
 }
 
-// What a program is given: at most 65,536 bytes, and a list.
+// What a program is given: at most 65,536 bytes, and a list. (Its clause speaks of the bytes, since only an `impl` here
+// can import what a sheet means.)
 pub fn read_input(bytes: &[u8]) -> Result<ListSheet<'_>, ProgramFault>
     ensures { elim result [ Ok s ↦ (program_judged bytes.now ≡ Ok tt) × (meaning_of s.records.bytes.now ≡ meaning_of bytes.now) | Err e ↦ program_judged bytes.now ≡ Err e ] }
 {

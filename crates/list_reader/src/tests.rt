@@ -50,9 +50,7 @@ fn line(heap: Global, bytes: &[u8]) -> Result<String, AllocError> {
 #[test]
 fn sheet_a_reads(rt: HostRuntime) -> Result<(), Fail> {
     let bytes = sheet_a();
-    let Ok(sheet) = ListSheet::new(&bytes) else {
-        return Err(Fail::new("refused"));
-    };
+    let sheet = ListSheet::new(&bytes)?;
     assert_eq!(rt; sheet.size(), 4);
     assert_eq!(rt; sheet.points(0, 1), 5);
     assert_eq!(rt; sheet.points(2, 0), 7);
@@ -67,9 +65,7 @@ fn sheet_a_reads(rt: HostRuntime) -> Result<(), Fail> {
 #[test]
 fn zeros_are_a_list(rt: HostRuntime) -> Result<(), Fail> {
     let bytes = [0; 512];
-    let Ok(sheet) = ListSheet::new(&bytes) else {
-        return Err(Fail::new("refused"));
-    };
+    let sheet = ListSheet::new(&bytes)?;
     assert_eq!(rt; sheet.size(), 1);
     let seen = line(rt.alloc(), &bytes)?;
     assert_eq!(rt; seen.as_str(), "accepted");

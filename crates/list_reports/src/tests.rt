@@ -3,7 +3,8 @@ use crate::pairing::pair;
 use std::alloc::{AllocError, Global};
 use std::test::Fail;
 
-// The list of the sheet with n = 4 and the table 5, 7, 65535, 1, 9, 4: the header, and a row for each two that fit.
+// The list of the sheet with n = 4 and the table 5, 7, 65535, 1, 9, 4: the header, and a row for each two that fit. (Also in
+// the reader's tests, from where a helper can't be had.)
 fn sheet_a() -> [u8; 512] {
     let rows = [
         [0, 0, 5, 3],

@@ -8,7 +8,7 @@ use sheets::table::TableSheet;
 use std::alloc::{AllocError, Global};
 use std::test::Fail;
 
-// Puts bytes at the start of a part.
+// Puts bytes at the start of a part, which may be longer.
 fn put(part: &mut [u8], bytes: &[u8]) {
     for (byte, new) in part.iter_mut().zip(bytes) {
         *byte = *new;
@@ -50,6 +50,7 @@ fn list(changes: &[(usize, u8)]) -> [u8; 1024] {
     bytes
 }
 
+// (Also in the reader's tests, from where a helper can't be had.)
 fn line(heap: Global, bytes: &[u8]) -> Result<String, AllocError> {
     match read_input(bytes) {
         Ok(_) => "accepted".to_string(heap),
@@ -113,7 +114,7 @@ fn limits_of_a_block(rt: HostRuntime) -> Result<(), Fail> {
     Ok(())
 }
 
-// Two faults in one record, or in two that follow each other.
+// Two faults in one record, or in two that follow each other; and the order of records across two blocks.
 #[test]
 fn questions_put_to_records(rt: HostRuntime) -> Result<(), Fail> {
     let heap = rt.alloc();
@@ -178,10 +179,7 @@ fn the_longest_list(rt: HostRuntime) -> Result<(), Fail> {
     assert_eq!(rt; buffer[133120], 7);
     // A copy has the same bytes, and the byte beyond them stays.
     let mut copy = [7u8; 133121];
-    let Ok(copied) = copy_list(&buffer[0..133120], &mut copy) else {
-        return Err(Fail::new("not copied"));
-    };
-    assert_eq!(rt; copied, 133120);
+    assert_eq!(rt; copy_list(&buffer[0..133120], &mut copy)?, 133120);
     assert_eq!(rt; &copy[0..133120], &buffer[0..133120]);
     assert_eq!(rt; copy[133120], 7);
     Ok(())

@@ -22,6 +22,7 @@ pub fn read_back<'a, S: Sheet>(sheet: &S, buffer: &'a mut [u8]) -> Result<ListSh
     ensures { ReadBack (S.Sheet.meaning sheet.now) buffer.old result }
 {
     let count = write_list(sheet, buffer)?;
+    // What was written is accepted.
     let Ok(list) = ListSheet::new(&buffer[..count]) else {
         unreachable!()
     };

@@ -21,7 +21,7 @@ impl WriteFault {
 }
 
 // A copy is refused as its reading or as its writing is.
-#[derive(Clone, Copy, PartialEq)]
+#[derive(Clone, Copy, PartialEq, Eq, Debug)]
 pub enum CopyFault {
     List(ListFault),
     Write(WriteFault),

@@ -78,6 +78,7 @@ impl<'a, S: Sheet> Iterator for Records<'a, S> {
         let key = next_key(self.sheet, self.next)?;
         let points = self.sheet.points(key % 256, key / 256);
         self.next = key + 1;
+        // `as`: a key is below 65,536, and points are below 65,535.
         Some(Record {
             key: key as u16,
             points: points as u16,

@@ -47,10 +47,7 @@ fn two_blocks(rt: HostRuntime) -> Result<(), Fail> {
         assert_eq!(rt; list.points(4, 16), 3);
     }
     let mut copied = [0u8; 1100];
-    let Ok(count) = copy_list(&buffer[0..1024], &mut copied) else {
-        return Err(Fail::new("not copied"));
-    };
-    assert_eq!(rt; count, 1024);
+    assert_eq!(rt; copy_list(&buffer[0..1024], &mut copied)?, 1024);
     assert_eq!(rt; &copied[0..1024], &buffer[0..1024]);
     // The first pair of the last block is now the last of the block before it.
     // By index: after a write to a part no proof finds the bounds below.

@@ -25,6 +25,7 @@ fn next_block<S: Sheet>(place: u16, low: u8, records: &mut Records<'_, S>) -> [u
         block[2] += 1;
         block[4 + 4 * i..8 + 4 * i].copy_from_slice(&record.to_bytes());
     }
+    // `as`, since a check fits four bytes.
     let check = check_of(&block) as u32;
     block[508..].copy_from_slice(&check.to_le_bytes());
     block
@@ -49,6 +50,7 @@ pub fn write_list<S: Sheet>(sheet: &S, buffer: &mut [u8]) -> Result<usize, Write
     if buffer.len() < 512 * blocks {
         return Err(WriteFault::Short);
     }
+    // `as` here and below: n - 1 is a byte, and there are 260 blocks at most.
     let low = (sheet.size() - 1) as u8;
     let mut records = Records::of(sheet);
     for place in 0..blocks {

@@ -11,6 +11,7 @@ const LIMIT: usize = 1_048_576;
 fn main(rt: HostRuntime) -> io::Result<()> {
     let heap = rt.alloc();
     let mut input = Vec::new(heap);
+    // `as`, since `u64` has no `From<usize>`.
     rt.stdin().take(LIMIT as u64 + 1).read_to_end(&mut input)?;
     if input.len() > LIMIT {
         return println!(rt; "refused text: more than {LIMIT} bytes");

@@ -24,7 +24,7 @@ pub record Refused (text : List ℕ) (fault : TableFault) : Type 0 where
   pub holds : read text ≡ Ok (size ∷ entries)
   pub judged : table_judged size entries ≡ Err fault
 
--- The answer to a text, unless memory runs out; for a text with no number it never does.
+-- The answer to a text, unless memory runs out; for a text of white space alone it never does.
 abbrev pub Paired : List ℕ → Result Report Refusal → Type 0
 Paired text (Ok report) = Reported text report
 Paired text (Err (Text fault)) = ((fault ≡ Memory) × (says_none (read text) ≡ false)) ⊎ (read text ≡ Err fault)

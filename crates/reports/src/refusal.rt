@@ -10,7 +10,7 @@ use std::fmt;
 use texts::faults::TextFault;
 
 // The text holds no table, or its table is no sheet.
-#[derive(Debug, Drop, PartialEq)]
+#[derive(Debug, Drop, PartialEq, Eq)]
 pub enum Refusal {
     Text(TextFault),
     Table(TableFault),
@@ -41,7 +41,7 @@ impl From<AllocError> for Refusal {
     }
 }
 
-// What an accepted table would have.
+// What an accepted table would have, in this program's words: a sheet's fault is told by its number.
 fn reason(fault: TableFault) -> &'static str
     ensures { result.now ≡ reason_of fault }
 {

@@ -7,7 +7,8 @@ ghost use Rattle.rules.specs.Noted.{at, noted};
 
 use candidates::set::CandidateSet;
 
-// The number of candidate v stands at place v.
+// The number of candidate v stands at place v, in an array of fixed size, since a rule may not run out of memory. Members
+// of sets are below 256; any other place has no number.
 #[derive(Drop)]
 pub(crate) struct Noted([u64; 256]);
 

@@ -13,6 +13,7 @@ pub trait Rule {
     ghost bounds: { (r : Self) → Bounds (value r) };
 
     // The number for the clique c and the set s of those that may join it; marks that are no candidates don't count.
+    // Three parameters, since they are the question.
     fn number<S: Sheet>(&self, sheet: &S, c: CandidateSet, s: CandidateSet) -> u64
         ensures { result ≡ number_inside (value self.now) (S.Sheet.meaning sheet.now) (members c) (members s) };
 

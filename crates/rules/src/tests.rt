@@ -12,7 +12,7 @@ use std::test::Fail;
 // Four candidates, of which 1 and 2 don't fit.
 const SMALL: [u16; 6] = [5, 7, 65535, 1, 9, 4];
 
-// The flat, the colour and the path number.
+// The flat, the colour and the path number of two sets. (`Numbers` asks whole sheets only.)
 fn numbers_of<S: Sheet>(sheet: &S, c: CandidateSet, s: CandidateSet) -> (u64, u64, u64) {
     (
         Flat.number(sheet, c, s),

@@ -3,26 +3,27 @@ ghost use Rattle.std.specs.Prelude.{◌≡◌, []};
 ghost use Rattle.runs.specs.Calls.{refusal_number};
 ghost use Rattle.search.specs.Refusals.{grant_refused, held_refused, offer_refused};
 
-#[derive(Clone, Copy, PartialEq, Debug)]
+#[derive(Clone, Copy, PartialEq, Eq, Debug)]
 pub enum GrantRefusal {
     OutOfRange,
 }
 
 // The place of the entry that is refused, and of the first earlier one that it doesn't fit.
-#[derive(Clone, Copy, PartialEq, Debug)]
+#[derive(Clone, Copy, PartialEq, Eq, Debug)]
 pub enum OfferRefusal {
     NotBelow(usize),
     NotAbove(usize),
     NotFitting(usize, usize),
 }
 
-#[derive(Clone, Copy, PartialEq, Debug)]
+#[derive(Clone, Copy, PartialEq, Eq, Debug)]
 pub enum HeldRefusal {
     NoneHeld,
     TooShort,
 }
 
 impl GrantRefusal {
+    // The number that the refusal is told by.
     pub fn number(self) -> u16
         ensures { result ≡ refusal_number (grant_refused self) }
     {
@@ -33,6 +34,7 @@ impl GrantRefusal {
 }
 
 impl OfferRefusal {
+    // The number that the refusal is told by.
     pub fn number(self) -> u16
         ensures { result ≡ refusal_number (offer_refused self) }
     {
@@ -45,6 +47,7 @@ impl OfferRefusal {
 }
 
 impl HeldRefusal {
+    // The number that the refusal is told by.
     pub fn number(self) -> u16
         ensures { result ≡ refusal_number (held_refused self []) }
     {

@@ -51,7 +51,7 @@ fn an_offer_of_the_same_weight_stays(rt: HostRuntime) -> Result<(), Fail> {
     let entries = [65535, 6, 6];
     let mut buffer = [0; 3];
     let mut search = Search::new(TableSheet::new(3, &entries)?, Colour);
-    assert_eq!(rt; search.grant(100)?.1, true);
+    assert!(rt; search.grant(100)?.1);
     assert_eq!(rt; search.held(&mut buffer), Ok((2, 6)));
     assert_eq!(rt; buffer, [0, 2, 0]);
     let mut other = Search::new(TableSheet::new(3, &entries)?, Colour);

@@ -30,7 +30,7 @@ pub trait Sheet {
     fn fitting(&self, v: usize) -> CandidateSet
         ensures { (k : ℕ) → has result k ≡ (meaning self.now).fit v k }
     {
-        // The candidates are numbers: the range is all there is to go over.
+        // The candidates are numbers: the range is all there is to go over, and a fold over it would be no plainer.
         let mut set = CandidateSet::empty();
         for u in 0..self.size() {
             if self.fits(v, u) {

@@ -19,6 +19,7 @@ pub fn weight<S: Sheet>(sheet: &S, set: CandidateSet) -> Points
     ensures value { result ≡ weight_of (S.Sheet.meaning sheet.now) (members set) }
     ensures bound { result ≤ 2139029760 }
 {
+    // A loop, since each is asked against those that are left.
     let mut rest = set;
     let mut sum = 0;
     for v in set.iter() {
@@ -39,6 +40,7 @@ pub fn is_clique<S: Sheet>(sheet: &S, set: CandidateSet) -> bool
     ensures value { Decides result (Clique (S.Sheet.meaning sheet.now) (members set)) }
     ensures small { SmallCliques (S.Sheet.meaning sheet.now) }
 {
+    // A loop, as in `weight`.
     let mut rest = set;
     for v in set.iter() {
         rest = rest.without(v);

@@ -76,6 +76,7 @@ impl Sheet for TableSheet<'_> {
         self.size
     }
 
+    // A line each over `points_of`, as in the other makes: a trait for two lines would ask more of whoever writes a sheet.
     fn fits(&self, u: usize, v: usize) -> bool {
         self.points_of(u, v).is_some()
     }

@@ -57,7 +57,8 @@ impl<S: Sheet> Struck<S> {
         }
     }
 
-    // Adds v to the struck set. A refusal changes nothing.
+    // Adds v to the struck set. A refusal changes nothing. (That the sheet below stays is said in full: a word for it would
+    // be longer.)
     pub fn strike(&mut self, v: usize) -> Result<(), StrikeFault>
         ensures value { result ≡ strike_judged (S.Sheet.meaning self.old.sheet).size (members self.old.struck) v }
         ensures after { MatchResult result (λ _. members self.new.struck ≡ inserted v (members self.old.struck)) (λ _. self.new ≡ self.old) }

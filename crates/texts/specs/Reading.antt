@@ -54,7 +54,7 @@ says_none (Err (Large _)) = false
 says_none (Err Nothing) = true
 says_none (Err Memory) = false
 
--- A call answers what is said, unless memory runs out; for a text with no number it never does.
+-- A call answers what is said, unless memory runs out; where there is no number to say, it never does.
 abbrev pub Answers : {X : Type 0} → Result (List ℕ) TextFault → (X → List ℕ) → Result X TextFault → Type 0
 Answers said list (Ok x) = said ≡ Ok (list x)
 Answers said list (Err e) = ((e ≡ Memory) × (says_none said ≡ false)) ⊎ (said ≡ Err e)

@@ -7,7 +7,7 @@ use std::alloc::AllocFailed;
 use std::fmt;
 
 // The first thing that is wrong. A place counts the bytes of the text from 0.
-#[derive(Debug, Drop, PartialEq)]
+#[derive(Debug, Drop, PartialEq, Eq)]
 pub enum TextFault {
     // The byte is neither a digit nor white space.
     Byte { place: usize },

@@ -4,6 +4,7 @@ use sheets::sheet::Sheet;
 
 // The gain of a set over c: the points of each member with c and, once, with each lower member.
 fn gain<S: Sheet>(sheet: &S, c: CandidateSet, set: CandidateSet) -> u64 {
+    // By loops, since each member has lower ones of its own.
     let mut sum: u64 = 0;
     for v in set.iter() {
         let lower = set.meet(CandidateSet::first(v));

@@ -28,13 +28,10 @@ pub(crate) fn made_entries(
         2 => Some(100),
         _ => Some(65535),
     };
-    let mut entries = Vec::new(heap);
-    for v in 0..n {
-        for _ in 0..v {
-            entries.push(made_entry(random, apart, limit))?;
-        }
-    }
-    Ok(entries)
+    (0..n)
+        .flat_map(|v| 0..v)
+        .map(|_| made_entry(random, apart, limit))
+        .collect(heap)
 }
 
 // A made set: each of the first 16 numbers by chance, so that some are no candidates.

@@ -20,6 +20,7 @@ impl Random {
         ensures { result ≤ n - 1 }
     {
         let x = self.next() >> 32;
+        // `as`: it is below n, or 0.
         x.checked_rem(u64::from(n)).unwrap_or(0) as u16
     }
 }

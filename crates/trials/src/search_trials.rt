@@ -15,7 +15,7 @@ use sheets::table::TableSheet;
 use std::alloc::{AllocError, Global};
 use std::fmt;
 
-// How many searches were run to their end, and how often something was not as promised.
+// How many searches were run, and how often something was not as promised.
 #[derive(Clone, Copy, Default)]
 pub(crate) struct Searches {
     runs: Count,
@@ -25,7 +25,7 @@ pub(crate) struct Searches {
     set_wrong: Count,
 }
 
-// What a run has been answered so far.
+// What a run has been answered so far: counted here and not by findings, which is what is tried.
 #[derive(Clone, Copy, Default)]
 struct Run {
     nodes: u64,
@@ -97,6 +97,7 @@ impl Searches {
             held.points == best.points && (run.best_taken || held.set == best.set)
         });
         self.set_wrong.note(!right);
+        let _ = search.close();
         Ok(())
     }
 

@@ -24,6 +24,7 @@ impl Iterator for Members {
     ghost remaining = { item_count remaining };
 
     fn next(&mut self) -> Option<usize> {
+        // Not by `lowest` and `without`, which make a search take 1.85 times as long. `as`: the library has no `From` of a u32.
         for (i, word) in self.left.words.iter_mut().enumerate() {
             if *word != 0 {
                 let v = 64 * i + word.trailing_zeros() as usize;

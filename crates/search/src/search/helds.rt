@@ -10,7 +10,8 @@ use rules::rule::Rule;
 use sheets::sheet::{Points, Sheet};
 
 impl<S: Sheet, R: Rule> Search<S, R> {
-    // Writes the held set upwards into the front of the buffer, and answers how many it has and what it weighs.
+    // Writes the held set upwards into the front of the buffer, and answers how many it has and what it weighs,
+    // as a pair that callers take apart at once.
     pub fn held(&self, buffer: &mut [usize]) -> Result<(usize, Points), HeldRefusal>
         ensures { held_answer result buffer.new ≡ written (state_of self.now).held buffer.old }
     {
