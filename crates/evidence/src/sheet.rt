@@ -85,7 +85,8 @@ fn check_places(meters: usize, flats: usize, candidates: &[Candidate]) -> Result
 impl<'a> EvidenceSheet<'a> {
     ghost use Rattle.evidence.specs.Sheets.{Answered, meaning_of};
 
-    // The sheet of the evidence. Every record is questioned, also one that no candidate names.
+    // The sheet of the evidence. Every record is questioned, also one that no candidate names. (Three parameters: what holds
+    // them together is the sheet.)
     pub fn new(
         meters: &'a [Meter],
         flats: &'a [Flat],

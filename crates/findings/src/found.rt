@@ -6,7 +6,7 @@ ghost use Rattle.findings.specs.Searched.{Searched};
 ghost use Rattle.findings.specs.Summaries.{Leads, collected, holding, noted, nothing, summary_of, told};
 ghost use Rattle.runs.specs.Calls.{Grant, reply, written};
 ghost use Rattle.runs.specs.Promise.{Promise};
-ghost use Rattle.search.specs.Searching.{state_of};
+ghost use Rattle.search.specs.Searching.{Kept, state_of};
 
 use crate::listed::Listed;
 use candidates::set::CandidateSet;
@@ -16,7 +16,8 @@ use sheets::pairing::Pairing;
 use sheets::sheet::Sheet;
 use std::fmt;
 
-// What is held, the ceiling, and what the grants answered together: whether the search is finished, and its nodes.
+// What is held, the ceiling, and what the grants answered together: whether the search is finished, and its nodes. (Both are
+// printed, so neither is an Option of the other.)
 #[derive(Clone, Copy)]
 pub struct Found {
     pub pairing: Pairing,
@@ -67,7 +68,7 @@ impl Found {
         requires { self.nodes + nodes < 2 ^ 64 }
         ensures value { summary_of result ≡ noted (summary_of self) (reply (S.Sheet.meaning search.old.sheet) (R.Rule.value search.old.rule) (state_of search.old) (Grant nodes)).answer }
         ensures after { state_of search.new ≡ (reply (S.Sheet.meaning search.old.sheet) (R.Rule.value search.old.rule) (state_of search.old) (Grant nodes)).next }
-        ensures same { (search.new.sheet ≡ search.old.sheet) × (search.new.rule ≡ search.old.rule) }
+        ensures same { Kept search.old search.new }
     {
         match search.grant(nodes) {
             Ok((done, finished)) => Found {

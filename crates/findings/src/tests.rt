@@ -4,7 +4,7 @@ use rules::colour::Colour;
 use sheets::table::TableSheet;
 use std::test::Fail;
 
-// Four candidates, of which 1 and 2 don't fit.
+// Four candidates, of which 1 and 2 don't fit. (Also in the tests of other crates, from where no constant can be had.)
 const SMALL: [u16; 6] = [5, 7, 65535, 1, 9, 4];
 
 #[test]

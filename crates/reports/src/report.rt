@@ -15,6 +15,7 @@ use sheets::pairing::Pairing;
 use sheets::sheet::Sheet;
 use std::fmt;
 
+// (The report on a list has other fields and other lines.)
 #[derive(Clone, Copy)]
 pub struct Report {
     pub candidates: usize,

@@ -3,6 +3,7 @@ use crate::pairing::paired;
 use std::alloc::{AllocError, Global};
 use std::test::Fail;
 
+// (Also in the tests of list_reports, of another report.)
 fn printed(heap: Global, text: &[u8]) -> Result<String, AllocError> {
     match paired(heap, text) {
         Ok(report) => report.to_string(heap),

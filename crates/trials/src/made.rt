@@ -11,6 +11,7 @@ fn made_entry(random: &mut Random, apart: u16, limit: Option<u16>) -> u16 {
     limit.map_or(0, |limit| random.below(limit))
 }
 
+// (`heap` and `random` stay apart: where memory comes from, and where numbers do.)
 pub(crate) fn made_entries(
     heap: Global,
     random: &mut Random,

@@ -25,7 +25,8 @@ pub(crate) struct Searches {
     set_wrong: Count,
 }
 
-// What a run has been answered so far: counted here and not by findings, which is what is tried.
+// Whether a grant said finished, after how many nodes, and whether an offer as heavy as the best was taken: counted here and
+// not by findings, which is what is tried.
 #[derive(Clone, Copy, Default)]
 struct Run {
     nodes: u64,
