@@ -188,6 +188,10 @@ from-sub a h none = tt
 from-sub a h (skip {y = y} {xs = xs} s) = from-weaker (suc y) a xs (from-sub (suc y) h.1 s) (omega arith)
 from-sub a h (keep {x = x} s) = (h.0, from-sub (suc x) h.1 s)
 
+pub from-above : (a : ℕ) (xs : List ℕ) → Ascending xs → ((k : ℕ) → is_in k xs ≡ true → a ≤ k) → From a xs
+from-above a [] h above = tt
+from-above a (x ∷ xs) h above = (above x (in-first x xs), h.1)
+
 pub least-is : (a v : ℕ) (xs : List ℕ) → From a xs → is_in v xs ≡ true → ((k : ℕ) → k < v → is_in k xs ≡ false) → least xs ≡ Some v
 least-is a v [] h here below = absurd (false≢true here)
 least-is a v (x ∷ xs) h here below =
@@ -195,6 +199,13 @@ least-is a v (x ∷ xs) h here below =
     let first = below x in
     let same : x ≡ v = grind (arith, nat_tests) in
     ap Some same
+
+-- the lowest member and all others
+pub cons-from-least : (v : ℕ) (xs ys : List ℕ) → Ascending xs → Ascending ys → is_in v xs ≡ true → ((k : ℕ) → is_in k xs ≡ true → v ≤ k) → ((k : ℕ) → is_in k ys ≡ (is_in k xs && not (eqb k v))) → xs ≡ v ∷ ys
+cons-from-least v xs ys up also here lowest others =
+    same-sets 0 0 xs (v ∷ ys) up
+    (omega arith, from-above (suc v) ys also (λ k e. let o = others k in let low = lowest k in grind (arith, nat_tests)))
+    (λ k. let o = others k in let same : eqb k v ≡ true → is_in k xs ≡ true = λ e. ap (λ j. is_in j xs) (eqb-true k v e) ∙ here in grind (arith, nat_tests))
 
 pub nothing-from-least : (xs : List ℕ) → None ≡ least xs → xs ≡ []
 nothing-from-least [] is = refl

@@ -12,7 +12,11 @@ impl CandidateSet {
     pub fn iter(self) -> Members
         ensures { remaining result ≡ members self }
     {
-        Members { left: self }
+        Members {
+            words: self.words,
+            place: 0,
+            word: self.words[0],
+        }
     }
 }
 
@@ -24,14 +28,17 @@ impl Iterator for Members {
     ghost remaining = { item_count remaining };
 
     fn next(&mut self) -> Option<usize> {
-        // Not by `lowest` and `without`, which make a search take 1.85 times as long. `as`: the library has no `From` of a u32.
-        for (i, word) in self.left.words.iter_mut().enumerate() {
-            if *word != 0 {
-                let v = 64 * i + word.trailing_zeros() as usize;
-                *word &= *word - 1;
-                return Some(v);
+        // Not by `lowest` and `without`, which make a search take 1.85 times as long. The current word stands apart: with what is left
+        // kept as a set, each step writes to memory, and goes over the words before. `as`: the library has no `From` of a u32.
+        while self.word == 0 {
+            if self.place == 3 {
+                return None;
             }
+            self.place += 1;
+            self.word = self.words[self.place];
         }
-        None
+        let v = 64 * self.place + self.word.trailing_zeros() as usize;
+        self.word &= self.word - 1;
+        Some(v)
     }
 }

@@ -1,23 +1,18 @@
-use Rattle.std.proofs.Common.{List, ℕ, length, sym, ap, ◌∙◌, arith, rules}
-use Rattle.std.proofs.iter.Next.{firm}
-use Rattle.candidates.specs.Members.{members}
-use Rattle.candidates.specs.Walk.{remaining}
-use Rattle.candidates.proofs.Marks.{nothing-from-words, taken-from-word}
+use Rattle.std.proofs.Common.{length, sym, refl, ap, ◌∙◌, arith, rules}
+use Rattle.candidates.proofs.Walk.{remaining-none, remaining-on, remaining-taken}
 use Rattle.candidates.proofs.cursor.steps.MembersIterator.next.Goals as goal
+use Rattle.std.proofs.iter.Next.{firm}
 
-pub returns-then-word-ne0-clause-steps : goal.returns-then-word-ne0-clause-steps
-unfolding remaining
-returns-then-word-ne0-clause-steps c =
-    let l = c.loop-i in
-    ap (λ (ws : List ℕ). members (record { words = ws })) (sym l.invariant.0)
-    ∙ taken-from-word (record { words = l.word-items }) l.i (omega arith) (omega arith) (omega arith) c.if-word-ne0.true l.invariant.1
+pub returns-then-self-eq3 : goal.returns-then-self-eq3
+returns-then-self-eq3 c = let none = remaining-none c.loop-self.self c.loop-self.invariant.1 c.loop-self-test.true c.if-self-eq3.true in record {
+  steps = (sym c.loop-self.invariant.0 ∙ none, none);
+  goes = firm (tt) (λ h. search rules);
+}
 
-pub returns-then-word-ne0-clause-goes : goal.returns-then-word-ne0-clause-goes
-returns-then-word-ne0-clause-goes c = firm ((tt, tt, omega (arith, ap length (returns-then-word-ne0-clause-steps c)))) (λ h. search rules)
+pub loop-self-preserved : goal.loop-self-preserved
+loop-self-preserved c = (remaining-on c.loop-self.self _ c.loop-self.invariant.1 c.loop-self-test.true refl refl refl ∙ c.loop-self.invariant.0, c.loop-self.invariant.1, omega arith)
 
-pub returns-clause-steps : goal.returns-clause-steps
-unfolding remaining
-returns-clause-steps c =
-    let l = c.loop-i in
-    let none = nothing-from-words (record { words = l.word-items }) (λ q h. l.invariant.1 q (omega arith)) in
-    (ap (λ (ws : List ℕ). members (record { words = ws })) (sym l.invariant.0) ∙ none, none)
+pub returns : goal.returns
+returns c =
+    let taken = sym c.loop-self.invariant.0 ∙ remaining-taken c.loop-self.self _ c.loop-self.invariant.1 c.loop-self.invariant.2 c.loop-self-test.false refl refl refl in
+    record { steps = taken; goes = firm ((tt, tt, omega (arith, ap length taken))) (λ h. search rules) }
