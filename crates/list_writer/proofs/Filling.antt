@@ -1,5 +1,6 @@
 -- How a block is filled, record by record, and then sealed.
-use Rattle.std.proofs.Common.{◌≡◌, ℕ, suc, ◌+◌, ◌-◌, ◌*◌, ◌/◌, ◌%◌, ◌^◌, ◌<◌, ◌≤◌, List, [], ◌∷◌, ◌++◌, length, take, drop, replicate, slice_index_or, slice_set, sym, refl, ap, ◌∙◌, ap₂, arith, take-add}
+use Rattle.std.proofs.Common.{◌≡◌, ℕ, suc, ◌+◌, ◌-◌, ◌*◌, ◌/◌, ◌%◌, ◌^◌, ◌<◌, ◌≤◌, List, [], ◌∷◌, ◌++◌, length, take, drop, replicate, slice_index_or, slice_set, min, sym, refl, ap, ◌∙◌, ap₂, ⊎_elim, arith, take-add}
+use Rattle.std.proofs.lemmas.Bool.{cases_lt}
 use borrow.Rule.Slice.PartMut.{put_mid}
 use Rattle.std.specs.Int.{to_le_bytes, w32}
 use Rattle.std.specs.List.{flat_map}
@@ -19,6 +20,22 @@ module _ {X : Type 0} (xs : List X) (i k : ℕ) (less : i ≤ k) (none : drop i 
 
   pub drop-past : drop k xs ≡ []
   drop-past = drop_all k xs (omega (arith, short))
+
+-- so many of a list as there are, but no more than k
+module _ {X : Type 0} (xs : List X) (i k : ℕ) (least : i ≡ min (length xs) k) where
+  pub take-least : take i xs ≡ take k xs
+  take-least =
+      ⊎_elim
+      (λ (less : length xs < k). take_all i xs (omega (arith, least)) ∙ sym (take_all k xs (omega arith)))
+      (λ (most : k ≤ length xs). let same : i ≡ k = omega (arith, least) in ap (λ n. take n xs) same)
+      (cases_lt (length xs) k)
+
+  pub drop-least : drop i xs ≡ drop k xs
+  drop-least =
+      ⊎_elim
+      (λ (less : length xs < k). drop_all i xs (omega (arith, least)) ∙ sym (drop_all k xs (omega arith)))
+      (λ (most : k ≤ length xs). let same : i ≡ k = omega (arith, least) in ap (λ n. drop n xs) same)
+      (cases_lt (length xs) k)
 
 -- and the next of those that are left
 module _ {X : Type 0} (xs : List X) (i : ℕ) (x : X) (rest : List X) (left : drop i xs ≡ x ∷ rest) where

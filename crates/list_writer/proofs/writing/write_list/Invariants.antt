@@ -10,5 +10,5 @@ invariant-loop-place g l =
     let m = g.S.Sheet.meaning l.sheet in
     record {
       stand : l.buffer ≡ flat_map (block_at (m.size - 1) (records m)) (counting 0 l.place) ++ drop (512 * l.place) l.initial.buffer;
-      left : to_come g.S.Sheet.meaning l.records ≡ drop (126 * l.place) (records m);
+      left : to_come g.S.Sheet l.records ≡ drop (126 * l.place) (records m);
     }
