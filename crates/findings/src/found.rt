@@ -6,6 +6,7 @@ ghost use Rattle.findings.specs.Searched.{Searched};
 ghost use Rattle.findings.specs.Summaries.{Leads, collected, holding, noted, nothing, summary_of, told};
 ghost use Rattle.runs.specs.Calls.{Grant, reply, written};
 ghost use Rattle.runs.specs.Promise.{Promise};
+ghost use Rattle.runs.specs.Worked.{WorkedCases};
 ghost use Rattle.search.specs.Searching.{Kept, state_of};
 
 use crate::listed::Listed;
@@ -100,6 +101,7 @@ impl Found {
 pub fn search_for<S: Sheet + Drop, R: Rule + Drop>(sheet: S, rule: R, grants: u32) -> Found
     ensures found { Searched (S.Sheet.meaning sheet) (R.Rule.value rule) grants result }
     ensures promise { Promise (S.Sheet.meaning sheet) (R.Rule.value rule) }
+    ensures worked { WorkedCases }
 {
     let mut search = Search::new(sheet, rule);
     let found = Found::after_grants(&mut search, grants, 1_000_000);

@@ -9,8 +9,11 @@ use Rattle.findings.proofs.Searches.{searched}
 use Rattle.findings.proofs.Summing.{held-noted}
 use Rattle.findings.proofs.found.search_for.Goals as goal
 
-pub returns : goal.returns
-returns g c =
+pub returns-clause-promise : goal.returns-clause-promise
+returns-clause-promise g c = promised (g.S.Sheet.meaning c.args.sheet) (g.S.Sheet.lawful c.args.sheet) (g.R.Rule.value c.args.rule) (g.R.Rule.bounds c.args.rule)
+
+pub returns-clause-found : goal.returns-clause-found
+returns-clause-found g c =
     let m = g.S.Sheet.meaning c.args.sheet in
     let number = g.R.Rule.value c.args.rule in
     let law = g.S.Sheet.lawful c.args.sheet in
@@ -24,7 +27,4 @@ returns g c =
     subst (λ u. Leads m number u calls s t) c.new-search.ensures.state
     (subst (λ rule. Leads m (g.R.Rule.value rule) (state_of new) calls s t) owned.1
     (subst (λ sheet. Leads (g.S.Sheet.meaning sheet) (g.R.Rule.value new.rule) (state_of new) calls s t) owned.0 c.after_grants-found.ensures)) in
-    record {
-      found = searched m law number promise c.args.grants _ ((λ i. noted (held-noted c.after_grants-found.result t.held (replicate 256 0) c.held_by.result c.unwrap_or.result c.held_by.ensures c.unwrap_or.ensures i) (Ceiling (c.ceiling.ensures i))) ∙ asked-all m number 1000000 c.args.grants 256 s t leads);
-      promise = promise;
-    }
+    searched m law number promise c.args.grants _ ((λ i. noted (held-noted c.after_grants-found.result t.held (replicate 256 0) c.held_by.result c.unwrap_or.result c.held_by.ensures c.unwrap_or.ensures i) (Ceiling (c.ceiling.ensures i))) ∙ asked-all m number 1000000 c.args.grants 256 s t leads)
