@@ -40,10 +40,14 @@ earned ms fs a b =
     let g = flat_at fs b.flat in
     wiring m n f g + order m n f g
 
--- Two candidates fit when they are apart.
-abbrev pub evidence_fit : List Candidate → ℕ → ℕ → Bool
-evidence_fit cs u v = (nat_lt u (length cs) && nat_lt v (length cs)) && apart (candidate_at cs u) (candidate_at cs v)
+-- Two of the first n candidates fit when they are apart.
+abbrev pub evidence_fit : ℕ → List Candidate → ℕ → ℕ → Bool
+evidence_fit n cs u v = (nat_lt u n && nat_lt v n) && apart (candidate_at cs u) (candidate_at cs v)
 
--- The sheet of all candidates; two that don't fit have 0 points.
+-- The sheet of the first n candidates; two that don't fit have 0 points.
+abbrev pub evidence_of : ℕ → List Meter → List Flat → List Candidate → Meaning
+evidence_of n ms fs cs = record { size = n; fit = evidence_fit n cs; points = λ u v. cond (evidence_fit n cs u v) (earned ms fs (candidate_at cs u) (candidate_at cs v)) 0 }
+
+-- The sheet of all candidates.
 abbrev pub evidence : List Meter → List Flat → List Candidate → Meaning
-evidence ms fs cs = record { size = length cs; fit = evidence_fit cs; points = λ u v. cond (evidence_fit cs u v) (earned ms fs (candidate_at cs u) (candidate_at cs v)) 0 }
+evidence ms fs cs = evidence_of (length cs) ms fs cs

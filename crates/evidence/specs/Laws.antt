@@ -1,5 +1,5 @@
 -- The laws of a sheet hold of all evidence, and two candidates earn at most 51.
-use Rattle.std.specs.Prelude.{◌≡◌, ℕ, ◌≤◌, Bool, false, cond, not, ◌&&◌, List, length, ◌==◌, nat_lt, refl}
+use Rattle.std.specs.Prelude.{◌≡◌, ℕ, ◌≤◌, Bool, false, cond, not, ◌&&◌, List, ◌==◌, nat_lt, refl}
 use Rattle.std.proofs.Common.{arith}
 use Rattle.std.proofs.lemmas.Bool.{and_left, and_right, eq-eqb, not_from_true, le-ltb, cond-false, cond_both}
 use Rattle.std.proofs.lemmas.Bool.Decides.{nat_tests}
@@ -9,7 +9,7 @@ use Rattle.sheets.specs.Meaning.{Lawful}
 use Rattle.evidence.specs.declared.records.Meter.{Meter}
 use Rattle.evidence.specs.declared.records.Flat.{Flat}
 use Rattle.evidence.specs.declared.records.Candidate.{Candidate}
-use Rattle.evidence.specs.Evidence.{meter_at, flat_at, candidate_at, apart, wiring, rises, order, earned, evidence_fit, evidence}
+use Rattle.evidence.specs.Evidence.{meter_at, flat_at, candidate_at, apart, wiring, rises, order, earned, evidence_fit, evidence_of}
 
 eqb-both : (a b : ℕ) → (a == b) ≡ (b == a)
 eqb-both a b = grind (arith, nat_tests)
@@ -51,32 +51,32 @@ module _ (ms : List Meter) (fs : List Flat) (a b : Candidate) where
       let g = flat_at fs b.flat in
       omega (arith, wiring-most (m.collector == n.collector) (f.riser == g.riser), order-most (rises m n f g) (f.floor == g.floor))
 
-module _ (cs : List Candidate) where
-  fit-both : (u v : ℕ) → evidence_fit cs u v ≡ evidence_fit cs v u
-  fit-both u v = rw (and_comm (nat_lt u (length cs)) (nat_lt v (length cs)), apart-both (candidate_at cs u) (candidate_at cs v))
+module _ (n : ℕ) (cs : List Candidate) where
+  fit-both : (u v : ℕ) → evidence_fit n cs u v ≡ evidence_fit n cs v u
+  fit-both u v = rw (and_comm (nat_lt u n) (nat_lt v n), apart-both (candidate_at cs u) (candidate_at cs v))
 
-  not_itself : (u : ℕ) → evidence_fit cs u u ≡ false
-  not_itself u = and_right (nat_lt u (length cs) && nat_lt u (length cs)) (apart (candidate_at cs u) (candidate_at cs u)) (apart-itself (candidate_at cs u))
+  not_itself : (u : ℕ) → evidence_fit n cs u u ≡ false
+  not_itself u = and_right (nat_lt u n && nat_lt u n) (apart (candidate_at cs u) (candidate_at cs u)) (apart-itself (candidate_at cs u))
 
-  outside : (u v : ℕ) → length cs ≤ u → evidence_fit cs u v ≡ false
-  outside u v past = and_left (nat_lt u (length cs) && nat_lt v (length cs)) (apart (candidate_at cs u) (candidate_at cs v)) (and_left (nat_lt u (length cs)) (nat_lt v (length cs)) (le-ltb u (length cs) past))
+  outside : (u v : ℕ) → n ≤ u → evidence_fit n cs u v ≡ false
+  outside u v past = and_left (nat_lt u n && nat_lt v n) (apart (candidate_at cs u) (candidate_at cs v)) (and_left (nat_lt u n) (nat_lt v n) (le-ltb u n past))
 
-module _ (ms : List Meter) (fs : List Flat) (cs : List Candidate) where
+module _ (n : ℕ) (ms : List Meter) (fs : List Flat) (cs : List Candidate) where
   -- 40 and 11 are the most of each
-  pub points-most : (u v : ℕ) → (evidence ms fs cs).points u v ≤ 51
+  pub points-most : (u v : ℕ) → (evidence_of n ms fs cs).points u v ≤ 51
   points-most u v =
       let a = candidate_at cs u in
       let b = candidate_at cs v in
-      cond_both (evidence_fit cs u v) (earned ms fs a b) 0 (λ p. p ≤ 51) (λ _. earned-most ms fs a b) (λ _. omega arith)
+      cond_both (evidence_fit n cs u v) (earned ms fs a b) 0 (λ p. p ≤ 51) (λ _. earned-most ms fs a b) (λ _. omega arith)
 
-  pub evidence-laws : 1 ≤ length cs → length cs ≤ 256 → Lawful (evidence ms fs cs)
+  pub evidence-laws : 1 ≤ n → n ≤ 256 → Lawful (evidence_of n ms fs cs)
   evidence-laws some most = record {
     least = some;
     most = most;
-    fit-both = fit-both cs;
-    points-both = λ u v. λ i. cond (fit-both cs u v i) (earned-both ms fs (candidate_at cs u) (candidate_at cs v) i) 0;
-    not_itself = not_itself cs;
-    no-points = λ u v. cond-false (evidence_fit cs u v) (earned ms fs (candidate_at cs u) (candidate_at cs v)) 0;
-    outside = outside cs;
+    fit-both = fit-both n cs;
+    points-both = λ u v. λ i. cond (fit-both n cs u v i) (earned-both ms fs (candidate_at cs u) (candidate_at cs v) i) 0;
+    not_itself = not_itself n cs;
+    no-points = λ u v. cond-false (evidence_fit n cs u v) (earned ms fs (candidate_at cs u) (candidate_at cs v)) 0;
+    outside = outside n cs;
     highest = λ u v. omega (arith, points-most u v);
   }

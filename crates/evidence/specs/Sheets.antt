@@ -1,5 +1,5 @@
 -- What an evidence sheet means, and what evidence is answered with.
-use Rattle.std.specs.Prelude.{◌≡◌, List, Ok, Err, Result}
+use Rattle.std.specs.Prelude.{◌≡◌, List, length, Ok, Err, Result}
 use Rattle.sheets.specs.Meaning.{Lawful, Meaning}
 use Rattle.evidence.specs.declared.records.Meter.{Meter}
 use Rattle.evidence.specs.declared.records.Flat.{Flat}
@@ -15,7 +15,7 @@ abbrev pub meaning_of : EvidenceSheet → Meaning
 meaning_of s = evidence s.meters.now s.flats.now s.candidates.now
 
 pub evidence-lawful : (s : EvidenceSheet) → Lawful (meaning_of s)
-evidence-lawful s = evidence-laws s.meters.now s.flats.now s.candidates.now s.least s.most
+evidence-lawful s = evidence-laws (length s.candidates.now) s.meters.now s.flats.now s.candidates.now s.least s.most
 
 -- A sheet that means the evidence, or the fault that decides.
 abbrev pub Answered : List Meter → List Flat → List Candidate → Result EvidenceSheet EvidenceFault → Type 0
