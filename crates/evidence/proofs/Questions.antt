@@ -1,5 +1,5 @@
 -- Questions put place by place and list after list, and how they decide on evidence.
-use Rattle.std.proofs.Common.{◌≡◌, ℕ, zero, suc, ◌+◌, ◌-◌, ◌<◌, ◌≤◌, Bool, true, false, ◌&&◌, leb, List, [], ◌∷◌, ◌++◌, length, Ok, Err, sym, refl, ap, ◌∙◌, map, not, get_or, Some, None, arith, inl, inr, subst, ltb, ⊎_elim}
+use Rattle.std.proofs.Common.{◌≡◌, ℕ, zero, suc, ◌+◌, ◌-◌, ◌<◌, ◌≤◌, Bool, true, false, ◌&&◌, leb, List, [], ◌∷◌, ◌++◌, length, Ok, Err, sym, refl, ap, ◌∙◌, add-one, map, not, get_or, Some, None, arith, inl, inr, subst, ltb, ⊎_elim}
 use Rattle.std.specs.List.{position, position_or_len}
 use Rattle.std.proofs.lemmas.List.Sums.{fails_before_first, passes_at_first, prefix_len-le-length}
 use Rattle.candidates.specs.Sets.{counting}
@@ -11,6 +11,13 @@ use Rattle.evidence.specs.declared.records.Candidate.{Candidate}
 use Rattle.evidence.specs.declared.fault.EvidenceFault.{EvidenceFault}
 use Rattle.evidence.specs.declared.fault.EvidenceFault.TheVariants.{Candidates}
 use Rattle.evidence.specs.Judged.{asked, serials, places, evidence_judged}
+
+module _ {Fault : Type 0} (question : ℕ → Bool × Fault) (a b : ℕ) where
+  asked-more : a < b → asked question a b ≡ question a ∷ asked question (a + 1) b
+  asked-more lt = let left : b - a ≡ suc (b - (a + 1)) = omega arith in rw (left, add-one)
+
+  pub first_no-yes : a < b → (question a).0 ≡ true → first_no (asked question a b) ≡ first_no (asked question (a + 1) b)
+  first_no-yes lt e = ap first_no (asked-more lt) ∙ cond-true (question a).0 (first_no (asked question (a + 1) b)) (Err (question a).1) e
 
 -- the first of n questions from a on that is answered no, or none
 module _ {Fault : Type 0} (question : ℕ → Bool × Fault) where

@@ -1,5 +1,5 @@
 -- The top of a stack.
-use Rattle.std.proofs.Common.{◌≡◌, ℕ, zero, suc, ◌-◌, ◌<◌, ◌≤◌, List, [], ◌∷◌, reverse, length, get_or, take, drop, is_some, Some, sym, refl, ap, ◌∙◌, arith}
+use Rattle.std.proofs.Common.{◌≡◌, ℕ, zero, suc, ◌-◌, ◌<◌, ◌≤◌, List, [], ◌∷◌, reverse, length, get_or, take, drop, is_some, Some, None, sym, refl, ap, ◌∙◌, arith}
 use Rattle.frames.specs.Stacks.{top_of}
 use Rattle.std.proofs.Math.Seq.{take-suc}
 use Rattle.std.proofs.lemmas.List.{reverse-append}
@@ -20,3 +20,7 @@ reverse-less (f ∷ items) (suc n) room = ap (drop 1) (sym (reverse-taken (f ∷
 pub cons-from-top : {F : Type 0} (f : F) (fs : List F) → Some f ≡ top_of fs → fs ≡ f ∷ drop 1 fs
 cons-from-top f [] e = absurd (false≢true (ap is_some (sym e)))
 cons-from-top f (h ∷ below) e = let same : f ≡ h = cc in ap (λ x. x ∷ below) (sym same)
+
+pub nothing-from-top : {F : Type 0} (fs : List F) → None ≡ top_of fs → fs ≡ []
+nothing-from-top [] e = refl
+nothing-from-top (f ∷ below) e = absurd (false≢true (ap is_some e))

@@ -32,6 +32,14 @@ module _ {F : Type 0} (q : ℕ → Asked F) (i n : ℕ) (less : i < n) (rest : A
 pub turn-all : {F : Type 0} (q : ℕ → Asked F) (i n : ℕ) → n ≤ i → (rest : Asked F) → first_no (flat_map q (counting i (n - i)) ++ rest) ≡ first_no rest
 turn-all q i n past rest = let none : n - i ≡ 0 = omega arith in rw none
 
+-- the part of a list that is lent as its block
+abbrev pub lent : List ℕ → ℕ → List ℕ
+lent bytes place = take (512 * place + 512 - 512 * place) (drop (512 * place) bytes)
+
+pub lent-block : (bytes : List ℕ) (place : ℕ) → lent bytes place ≡ block bytes place
+lent-block bytes place =
+    let width : 512 * place + 512 - 512 * place ≡ 512 = omega arith in ap (λ n. take n (drop (512 * place) bytes)) width
+
 -- the first whole block of what is left is the block at its place
 pub block-more : (bytes bs rest : List ℕ) (place : ℕ) → drop (512 * place) bytes ≡ bs ++ rest → length bs ≡ 512 → (bs ≡ block bytes place) × (rest ≡ drop (512 * (place + 1)) bytes) × (place < block_count bytes)
 block-more bytes bs rest place is long =
